@@ -248,10 +248,12 @@ static void threads_beside_changes()
 {
     msg::runtime runtime = opened();
     std::atomic<bool> over{false};
+    std::atomic<int> began{0};
     std::vector<std::thread> threads;
     for (int i = 0; i < 3; i++) {
         threads.emplace_back([&] {
             msg::sender sender(runtime);
+            began++;
             do {
                 std::uint32_t imp = sender.find(child, NAME);
                 CHECK(imp == 3 || imp == 8);
@@ -259,6 +261,7 @@ static void threads_beside_changes()
             CHECK(sender.find(child, NAME) == 8);
         });
     }
+    while (began < 3) std::this_thread::yield();
     for (int i = 0; i < 1001; i++) runtime.lock().replace(child, NAME, i % 2 ? 3 : 8);
     over = true;
     for (auto &thread : threads) thread.join();

@@ -6,6 +6,7 @@ archive="$root/crates/msg_c/out/libmsg_c.a"
 standin=no
 given=no
 sanitize=""
+places=()
 sanitizing=()
 failed=0
 
@@ -15,17 +16,28 @@ refuse() { echo "$tool: $1 ($tool --help)" >&2; exit 2; }
 # the kit's C library, which the archive is linked with: malloc under Rattle's names
 below() { echo "${RATTLE_KIT:-$(dirname "$(rt doc 2> /dev/null)")}/c/liblibc_c.a"; }
 
-# WORD NEXT..: whether it says over which library, and compiled how; `took` is how many words it has
-is_of_library() {
-    took=2
-    case "$1" in
-    --standin) standin=yes took=1 ;;
-    --archive | --sanitize)
-        [ $# -gt 1 ] || refuse "$1 wants a word behind it"
-        case "$1" in --archive) archive="$2" given=yes ;; *) sanitize="$2" ;; esac
-        ;;
-    *) return 1 ;;
-    esac
+# "FLAG.. NAME=.." PLACES WORDS..: of each option the variable of its name, with _ for -, is yes or its
+# word; of all other words, which are PLACES at most, `places` is the list
+options() {
+    local known=" $1 " most="$2" name
+    shift 2
+    while [ $# -gt 0 ]; do
+        name="${1#--}"
+        case "$1$known" in
+        "--help "*) usage; exit 0 ;;
+        --*" $name= "*)
+            [ $# -gt 1 ] || refuse "$1 wants a word behind it"
+            printf -v "${name//-/_}" %s "$2"
+            [ "$name" != archive ] || given=yes
+            shift
+            ;;
+        --*" $name "*) printf -v "${name//-/_}" yes ;;
+        -*) refuse "no such option: $1" ;;
+        *) places+=("$1") ;;
+        esac
+        shift
+    done
+    [ ${#places[@]} -le "$most" ] || refuse "too many words: ${places[*]}"
 }
 
 wants_library() {

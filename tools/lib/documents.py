@@ -4,7 +4,7 @@ import json
 import os
 import random
 
-from words import ROOT
+from words import ROOT, text_at, write_at
 
 # the worked image of the tests: Root, Child, Grand, Side and Proxy
 IMAGE = os.path.join(ROOT, "crates", "msg_documents", "data", "answers", "messages_are_forwarded.json")
@@ -32,8 +32,7 @@ def send(name, selector, *values):
 
 
 def worked(items):
-    with open(IMAGE, encoding="utf-8") as it:
-        return dict(json.load(it), items=items)
+    return dict(json.loads(text_at(IMAGE)), items=items)
 
 
 def worked_imps(names):
@@ -144,6 +143,5 @@ def write(folder, made=BESIDE_THE_PEER, part=1.0):
         text = json.dumps(make(lambda count: max(1, int(count * part)), random.Random(1)), separators=(",", ":"))
         assert len(text) <= MOST_BYTES, make.__name__
         paths[make.__name__] = os.path.join(folder, make.__name__ + ".json")
-        with open(paths[make.__name__], "w", encoding="utf-8") as it:
-            it.write(text)
+        write_at(text, paths[make.__name__])
     return paths

@@ -9,7 +9,8 @@ import subprocess
 import sys
 import time
 
-from words import ROOT
+import measure
+from words import ROOT, write_at
 
 FOLDER = "/var/tmp/yeldrost-gnustep"
 DEBIAN = "http://deb.debian.org/debian"
@@ -44,8 +45,7 @@ def get_sources(folder):
     apt = os.path.join(folder, "apt")
     for part in ("lists/partial", "cache/archives/partial"):
         os.makedirs(os.path.join(apt, part), exist_ok=True)
-    with open(os.path.join(apt, "sources"), "w", encoding="utf-8") as file:
-        file.write(f"deb-src [signed-by=/usr/share/keyrings/debian-archive-keyring.gpg] {DEBIAN} bookworm main\n")
+    write_at(f"deb-src [signed-by=/usr/share/keyrings/debian-archive-keyring.gpg] {DEBIAN} bookworm main\n", apt, "sources")
     places = {"Dir::Etc::SourceList": "sources", "Dir::State::Lists": "lists", "Dir::Cache": "cache"}
     words = [word for name, place in places.items() for word in ("-o", f"{name}={apt}/{place}")] + ["-o", "Dir::Etc::SourceParts=-", "-o", "APT::Sandbox::User=root"]
     subprocess.run(["apt-get", *words, "-q", "update"], check=True, stdout=sys.stderr)
@@ -103,8 +103,7 @@ class Suite:
         text = open(os.path.join(framework, "GNUmakefile.in"), encoding="utf-8").read()
         for mark, put in (("@TESTNAMES@", " ".join(name for name, _ in names)), ("@TESTOPTS@", "GNUSTEP_OBJ_DIR=./obj"), ("@TESTRULES@", rules)):
             text = text.replace(mark, put)
-        with open(os.path.join(place, "GNUmakefile"), "w", encoding="utf-8") as file:
-            file.write(text)
+        write_at(text, place, "GNUmakefile")
         env = {**os.environ, "GNUSTEP_MAKEFILES": makefiles, "GSTESTTOP": framework, "GSTESTROOT": self.base, "ADDITIONAL_OBJCFLAGS": "-DTEST_TS=0", "ADDITIONAL_INCLUDE_DIRS": "-I" + framework}
         with open(os.path.join(place, "build.log"), "wb") as log:
             subprocess.run(["nice", "-n", "15", "bash", "-c", '. "$GNUSTEP_MAKEFILES/GNUstep.sh"; exec make -j1 -k debug=yes'], cwd=place, env=env, stdout=log, stderr=subprocess.STDOUT, check=False)
@@ -125,9 +124,7 @@ def build(folder, source, *words, built=None):
 
 def our_library(folder, given, *more):
     """The folder of a libobjc.so.4 over the proved archive."""
-    words = [os.path.join(ROOT, "tools", "test", "objc"), "--link", folder, "--shared", *more]
-    words += ["--standin"] if given.standin else ["--archive", given.archive] if given.archive else []
-    subprocess.run(words, check=True, stdout=subprocess.DEVNULL)
+    measure.shim(folder, given, "--shared", *more)
     return folder
 
 

@@ -11,12 +11,14 @@ import re
 import shutil
 import statistics
 import subprocess
+import sys
 import tarfile
 import zipfile
 
 import gnustep
 import measure
-from words import ROOT
+import packages
+from words import text_at, write_at
 
 PLUGIN = "/usr/lib/openvpn/openvpn-auth-ldap.so"
 HEADERS = "/usr/include/GNUstep/Foundation"
@@ -27,50 +29,6 @@ LONG = (("NSRegularExpression", "basic"), ("PropertyLists", "test01"), ("NSJSONS
 TIMED = 'TIMEFORMAT="processors %U %S"; time "$@" > /dev/null 2>&1'
 AUTOGSDOC = f"autogsdoc -Project Foundation -HeaderDirectory {HEADERS} -DocumentationDirectory doc -GenerateHtml YES NSArray.h NSDictionary.h NSString.h NSObject.h NSDate.h NSBundle.h"
 MEANT = {"name": "plain", "count": 17, "half": 0.5, "on": True, "bytes": b"\0\1\2", "list": ["one", {"two": 2}, ["three"]]}
-
-LDAP = """<LDAP>
-    URL ldap://127.0.0.1:3389
-    Timeout 5
-    TLSEnable no
-    FollowReferrals no
-</LDAP>
-<Authorization>
-    BaseDN "ou=People,dc=example,dc=com"
-    SearchFilter "(uid=%u)"
-    RequireGroup GROUP
-    <Group>
-        BaseDN "ou=Groups,dc=example,dc=com"
-        SearchFilter "(cn=developers)"
-        MemberAttribute uniqueMember
-    </Group>
-</Authorization>
-"""
-
-SOURCE = """/** A class that says what it is. <p>In two paragraphs.</p> */
-#import <Foundation/NSObject.h>
-@protocol Telling
-/** Tells a <em>word</em>. */
-- (id) tell: (id)word;
-@end
-@interface Small : NSObject <Telling>
-{ int count; }
-/** Answers aNumber, twice. See [NSObject-copy]. */
-- (int) twice: (int)aNumber;
-+ (Small*) small;
-@end
-/** A function. */
-extern int smallFunction(int a, const char *b);
-#define SMALL_MACRO 1
-"""
-
-BODY = """#import "Small.h"
-/** Chapter of the file. */
-@implementation Small
-- (id) tell: (id)word { return word; }
-- (int) twice: (int)aNumber { return 2 * aNumber; }
-+ (Small*) small { return NSLocalizedString(@"A word", @"a comment"); }
-@end
-"""
 
 SERVED = "python3 ldap_server.py 3389 & sleep 1; ./ldap " + PLUGIN
 
@@ -118,34 +76,12 @@ cp -r . "$KEPT" 2> /dev/null
 """
 
 
-def make_plists(place):
+def make_texts(place):
     for name, kind in (("xml", plistlib.FMT_XML), ("binary", plistlib.FMT_BINARY)):
         with open(f"{place}/{name}.plist", "wb") as file:
             plistlib.dump(MEANT, file, fmt=kind)
     rows = " ".join(f'key{i} = ({i}, "text {i}", {{ inner = <{i:08x}>; other = "a\\"b"; }});' for i in range(2000))
-    texts = {
-        "plain.plist": '{ name = plain; count = 17; half = 0.5; on = YES; bytes = <000102>; list = (one, { two = 2; }, ("three \\U00e9", "tab\\t")); }\n',
-        "another.plist": "{ name = another; list = (four); new = { deep = { deeper = 1; }; }; }\n",
-        "large.plist": "{ " + rows + " }\n",
-        "broken.plist": '{ name = "never closed; list = (1, 2\n',
-        "desktop.plist": '{ NSExecutable = Small; NSIcon = "small.png"; NSTypes = ({ NSUnixExtensions = (small, sml); }); FreeDesktopCategories = (Utility, X-GNUstep); }\n',
-        "words.strings": '/* A comment */\n"A word" = "Ein Wort";\n"Another \\"word\\"" = "Un autre\\nmot";\nplain = word;\n',
-    }
-    for name, text in texts.items():
-        with open(f"{place}/{name}", "w", encoding="utf-8") as file:
-            file.write(text)
-
-
-def make_texts(place):
-    texts = {
-        "Small.h": SOURCE, "Small.m": BODY, "any.conf": LDAP.replace("GROUP", "false"), "group.conf": LDAP.replace("GROUP", "true"), "half.conf": LDAP[:120],
-        "page.xml": '<?xml version="1.0"?>\n<page kind="small"><title>A &amp; B</title><p>one<br/>two</p><!-- no --></page>\n', "broken.xml": "<page><title>never closed</page>\n",
-        "page.html": '<html><body><a rel="dynamical" href="other.html#there">there</a> <a href="#none">none</a> <a name="here">here</a></body></html>\n',
-        "other.html": '<html><body><a name="there">there</a></body></html>\n', "utf8.txt": "h\u00e9 \u4e16\u754c \u20ac\n",
-    }
-    for name, text in texts.items():
-        with open(f"{place}/{name}", "w", encoding="utf-8") as file:
-            file.write(text)
+    write_at("{ " + rows + " }\n", place, "large.plist")
     with open(f"{place}/latin.txt", "wb") as file:
         file.write("caf\u00e9 na\u00efve \u00fcber\n".encode("latin1") * 50)
 
@@ -154,8 +90,7 @@ def make_archives(place):
     packed = f"{place}/packed"
     os.makedirs(f"{packed}/inner/deeper")
     for name, text in (("first.txt", "first\n" * 2000), ("inner/second", "\0\1\2" * 5000), ("inner/deeper/n\u00e4me.txt", "third"), ("inner/empty", "")):
-        with open(f"{packed}/{name}", "w", encoding="utf-8") as file:
-            file.write(text)
+        write_at(text, packed, name)
     for folder, folders, names in os.walk(packed):
         for name in folders + names:
             os.utime(os.path.join(folder, name), (1_600_000_000, 1_600_000_000))
@@ -178,14 +113,12 @@ def make_archives(place):
 def make_inputs(folder):
     place = os.path.join(folder, "inputs")
     shutil.rmtree(place, ignore_errors=True)
-    os.makedirs(place)
-    make_plists(place)
+    shutil.copytree(os.path.join(gnustep.OWN, "inputs"), place)
     make_texts(place)
     make_archives(place)
     shutil.copy(os.path.join(gnustep.OWN, "ldap_server.py"), place)
     subprocess.run(["gcc-12", "-w", os.path.join(gnustep.OWN, "ldap.c"), "-ldl", "-o", os.path.join(place, "ldap")], check=True)
-    with open(os.path.join(ROOT, "docs", "OBJECTIVE-C.md"), encoding="utf-8") as page:
-        source = re.search(r"```objc\n(.*?)```", page.read(), re.S)[1]
+    source = re.search(r"```objc\n(.*?)```", text_at("docs", "OBJECTIVE-C.md"), re.S)[1]
     subprocess.run(["gcc-12", "-x", "objective-c", "-w", "-", "-x", "none", "-lobjc", "-o", os.path.join(place, "untold")], input=source, text=True, check=True)
     open(os.path.join(place, ".begun"), "w", encoding="utf-8").close()
     return place
@@ -210,8 +143,7 @@ def run_case(place, name, command, library, given):
     os.makedirs(kept)
     _, _, text = gnustep.run(["sh", "-c", TELLING % command], library, given.seconds, copied=place, env={"KEPT": kept})
     text = told(text)
-    with open(os.path.join(given.folder, "kept", f"{name}.{library.title}"), "w", encoding="utf-8") as file:
-        file.write(text)
+    write_at(text, given.folder, "kept", f"{name}.{library.title}")
     return text, kept
 
 
@@ -239,8 +171,7 @@ def make_bundles(folder):
     for number in range(BUNDLES):
         resources = os.path.join(place, f"B{number}.bundle", "Resources")
         os.makedirs(resources, exist_ok=True)
-        with open(os.path.join(resources, "Info-gnustep.plist"), "w", encoding="utf-8") as file:
-            file.write(f"{{ NSExecutable = B{number}; NSPrincipalClass = Loaded{number}_00; }}\n")
+        write_at(f"{{ NSExecutable = B{number}; NSPrincipalClass = Loaded{number}_00; }}\n", resources, "Info-gnustep.plist")
         gnustep.build(folder, "bundle.m", "-shared", "-fPIC", f"-DN={number}", built=os.path.join(os.path.dirname(resources), f"B{number}"))
     return place
 
@@ -307,8 +238,81 @@ def run_times(suite, ours, given):
     return right
 
 
+# ---- the table of whole programs; the aims, of libobjc's
+TABLE_INSTRUCTIONS, MOST_RESIDENT = 0.9, 1.1
+ROUNDS = (2, 4)
+SERVER = ("sogo", "postgresql", "memcached")
+RUNS = {
+    "plmerge": "plmerge new.plist plain.plist large.plist", "gspath": "gspath path", "defaults": "defaults domains", "plparse": "plparse plain.plist",
+    "xmlparse": "xmlparse page.xml", "lsar": "lsar one.zip", "sogo-tool": "sogo-tool", "gdnc": "gdnc --no-fork",
+}
+
+
+def program(run, library, copied):
+    """Instructions and kibibytes."""
+    start = ["python3", os.path.join(gnustep.OWN, "until_idle.py")]
+    _, _, counted = gnustep.run([*start, *measure.CALLGRIND, *run.split()], library, 600, copied=copied)
+    _, _, plain = gnustep.run([*start, *run.split()], library, 60, copied=copied)
+    return int(re.search(r"Collected *: (\d+)", counted)[1]), int(re.search(r"^resident (\d+)", plain, re.M)[1])
+
+
+def session(library, rounds, *words):
+    """Of sogod: what is counted of all, how many requests, and kibibytes."""
+    print(f"sogod over {library.title}, {rounds} rounds{', counted: a minute of a processor' if words else ''}", file=sys.stderr, flush=True)
+    _, _, text = gnustep.run(["python3", os.path.join(gnustep.OWN, "sogo.py"), str(rounds), *words], library, 3000, place="/var/tmp")
+    told, count = re.search(r"^requests (\d+) wrong (\d+) resident (\d+)$", text, re.M), re.search(r"Collected *: (\d+)", text)
+    if not told or told[2] != "0":
+        raise ChildProcessError(f"over {library.title}: {told[0] if told else text[-300:]}")
+    return int(count[1]) if count else 0, int(told[1]), int(told[3])
+
+
+def server(library):
+    """Instructions of its start, of each request in a later round, and kibibytes."""
+    (few, asked, _), (many, more, _) = (session(library, rounds, *measure.CALLGRIND) for rounds in ROUNDS)
+    each = (many - few) / (more - asked)
+    return few - asked * each, each, session(library, ROUNDS[1])[2]
+
+
+def row(title, kind, theirs, ours, most):
+    unit = 1e6 if kind == "instructions" else 1024
+    print(f"| {title} | {kind} | {theirs / unit:,.1f} | {ours / unit:,.1f} | {ours / theirs:.2f} |", flush=True)
+    return ours <= most * theirs
+
+
+def run_table(ours, given):
+    """Whether each is within the aims."""
+    libraries, right = [gnustep.Library("libobjc"), gnustep.Library("the shim", ours)], True
+    no_server = "it wants root" if os.geteuid() else packages.lack(SERVER)
+    inputs = make_inputs(given.folder)
+    print("Millions of instructions, and MiB:\n\n| | | libobjc | the shim | ratio |\n|---|---|---|---|---|")
+    for title, run in RUNS.items():
+        if given.names and title not in given.names:
+            continue
+        if not shutil.which(title):
+            print(f"{title} isn't there: left out", file=sys.stderr)
+            continue
+        theirs, here = (program(run, library, inputs) for library in libraries)
+        right = row(title, "instructions", theirs[0], here[0], TABLE_INSTRUCTIONS) and right
+        right = row(title, "resident", theirs[1], here[1], MOST_RESIDENT) and right
+    if given.names and "sogod" not in given.names:
+        return right
+    if no_server:
+        print(f"sogod: left out, {no_server}", file=sys.stderr)
+        return right
+    try:
+        theirs, here = (server(library) for library in libraries)
+    except ChildProcessError as error:
+        print(f"sogod: left out, since it doesn't run {error}", file=sys.stderr)
+        return False
+    for title, kind, place, most in (("sogod, its start", "instructions", 0, TABLE_INSTRUCTIONS), ("sogod, a request", "instructions", 1, TABLE_INSTRUCTIONS), ("sogod", "resident", 2, MOST_RESIDENT)):
+        right = row(title, kind, theirs[place], here[place], most) and right
+    return right
+
+
 def main(suite, ours, given):
     right = True
+    if given.table:
+        right = run_table(ours, given)
     if given.programs:
         right = run_programs(ours, given) and right
     if given.bundles:

@@ -4,7 +4,7 @@ import os
 import re
 from typing import NamedTuple
 
-from words import ROOT
+from words import ROOT, text_at
 
 HEADER = os.path.join(ROOT, "include", "msg_runtime.h")
 PROCESS = os.path.join(ROOT, "include", "msg_process.h")
@@ -32,8 +32,7 @@ class Field(NamedTuple):
 
 
 def text_of(path=HEADER):
-    with open(path, encoding="utf-8") as it:
-        return it.read()
+    return text_at(path)
 
 
 def code(text):

@@ -32,20 +32,11 @@ def instructions(words_of, fewer, more):
     return (collected(words_of(more)) - collected(words_of(fewer))) / (more - fewer)
 
 
-def of_library(parser):
-    """Adds --archive to a tool's words."""
-    parser.add_argument("--archive", metavar="FILE", default=ARCHIVE)
-
-
-def over_library(source, folder, given, parser):
-    """A program in C of `source`, below the root, over the archive that is given."""
-    if not os.path.exists(given.archive):
-        parser.error(f"{given.archive} isn't there: tools/build/archive makes it")
-    kit = os.environ.get("RATTLE_KIT") or os.path.dirname(said(["rt", "doc"]).strip())
-    program = os.path.join(folder, "program")
-    words = ["cc", "-std=c11", "-O2", "-D_DEFAULT_SOURCE", "-I", os.path.join(ROOT, "include"), os.path.join(ROOT, source)]
-    subprocess.run([*words, given.archive, os.path.join(kit, "c", "liblibc_c.a"), "-pthread", "-o", program], check=True)
-    return program
+def shim(folder, given, *more):
+    """What a program is linked with in place of -lobjc; it is built in the folder."""
+    words = [os.path.join(ROOT, "tools", "test", "objc"), "--link", folder, *more]
+    words += ["--standin"] if given.standin else ["--archive", given.archive] if given.archive else []
+    return subprocess.run(words, stdout=subprocess.PIPE, text=True, check=True).stdout.split()
 
 
 def want_hits(parser):

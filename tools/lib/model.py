@@ -1,6 +1,8 @@
 """What msgrun answers to a document, by docs/FORMAT.md alone: a plain model that shares nothing
 with the crates, for tools/test/fuzz."""
 import copy
+import itertools
+import json
 import re
 
 TEXTS = {1: "not json", 2: "shape", 3: "version", 4: "limit", 5: "duplicate class", 6: "unknown superclass", 7: "unknown class", 8: "duplicate object", 9: "unknown object", 10: "duplicate implementation",
@@ -8,9 +10,9 @@ TEXTS = {1: "not json", 2: "shape", 3: "version", 4: "limit", 5: "duplicate clas
 FORWARDING = "forwardingTargetForSelector:"
 MOST_BYTES, MOST_ENTRIES, MOST_SELECTORS, MOST_CHANGES = 16_777_216, 16_384, 4_096, 65_536
 MOST = {"categories": 1_024, "objects": 4_096, "imps": 4_096, "items": 65_536}
-ESCAPES = {'"': '"', "\\": "\\", "/": "/", "b": "\b", "f": "\f", "n": "\n", "r": "\r", "t": "\t"}
+# an escape; its group has one of a surrogate that is in no pair
+ESCAPE = re.compile(r"\\(?:u[dD][89abAB]..\\u[dD][c-fC-F]..|(u[dD][89a-fA-F])|.)")
 OPERATORS = {"add": 2, "sub": 2, "mul": 2, "eq": 2, "lt": 2, "if": 3}
-NUMBER = re.compile(r"-?(?:0|[1-9][0-9]*)(\.[0-9]+)?([eE][+-]?[0-9]+)?")
 
 
 class DocumentFault(Exception):
@@ -26,110 +28,30 @@ def refuse(number, when=True):
         raise DocumentFault(number)
 
 
-class Reader:
-    """JSON as serde_json reads it. A number that isn't a whole one of 64 bits is a float."""
+def number(text):
+    """A number that isn't a whole one of 64 bits is a float, as serde_json has it."""
+    value = float(text)
+    refuse(1, abs(value) == float("inf"))
+    is_whole = text != "-0" and re.fullmatch("-?[0-9]+", text) and -2**64 < value < 2**64 and -2**63 <= int(text) < 2**63
+    return int(text) if is_whole else value
 
-    def __init__(self, data):
-        refuse(4, len(data) > MOST_BYTES)
-        try:
-            self.text = data.decode("utf-8")
-        except UnicodeDecodeError:
-            refuse(1)
-        self.at, self.left = 0, 127
 
-    def whole(self):
-        value = self.value()
-        self.space()
-        refuse(1, self.at != len(self.text))
-        return value
+def depth_of(text):
+    """How deep the lists and objects of a JSON text nest."""
+    steps = ({"[": 1, "{": 1}.get(it, -1) for it in re.findall(r"[][{}]", re.sub(r'"(?:[^"\\]|\\.)*"', "", text)))
+    return max(itertools.accumulate(steps), default=0)
 
-    def space(self):
-        while self.at < len(self.text) and self.text[self.at] in " \t\n\r":
-            self.at += 1
 
-    def takes(self, token):
-        self.space()
-        found = self.text.startswith(token, self.at)
-        self.at += len(token) if found else 0
-        return found
-
-    def value(self):
-        for token, value in (("null", None), ("true", True), ("false", False)):
-            if self.takes(token):
-                return value
-        if self.takes('"'):
-            return self.string()
-        if self.takes("["):
-            return self.inside(self.items, "]")
-        if self.takes("{"):
-            return dict(self.inside(self.pairs, "}"))
-        return self.number()
-
-    def inside(self, read, end):
-        refuse(1, not self.left)
-        self.left -= 1
-        found = [] if self.takes(end) else list(read(end))
-        self.left += 1
-        return found
-
-    def items(self, end):
-        while True:
-            yield self.value()
-            if self.takes(end):
-                return
-            refuse(1, not self.takes(","))
-
-    def pairs(self, end):
-        while True:
-            refuse(1, not self.takes('"'))
-            key = self.string()
-            refuse(1, not self.takes(":"))
-            yield key, self.value()
-            if self.takes(end):
-                return
-            refuse(1, not self.takes(","))
-
-    def number(self):
-        found = NUMBER.match(self.text, self.at)
-        refuse(1, not found)
-        self.at = found.end()
-        if not found[1] and not found[2] and found[0] != "-0" and -2**63 <= int(found[0]) < 2**63:
-            return int(found[0])
-        refuse(1, float(found[0]) in (float("inf"), -float("inf")))
-        return float(found[0])
-
-    def string(self):
-        letters = []
-        while True:
-            refuse(1, self.at == len(self.text) or self.text[self.at] < " ")
-            letter = self.text[self.at]
-            self.at += 1
-            if letter == '"':
-                break
-            letters.append(self.escape() if letter == "\\" else letter)
-        return "".join(letters)
-
-    def escape(self):
-        refuse(1, self.at == len(self.text))
-        letter = self.text[self.at]
-        self.at += 1
-        if letter != "u":
-            refuse(1, letter not in ESCAPES)
-            return ESCAPES[letter]
-        high = self.unit()
-        if not 0xD800 <= high < 0xE000:
-            return chr(high)
-        refuse(1, high >= 0xDC00 or not self.text.startswith("\\u", self.at))
-        self.at += 2
-        low = self.unit()
-        refuse(1, not 0xDC00 <= low < 0xE000)
-        return chr(0x10000 + ((high - 0xD800) << 10) + (low - 0xDC00))
-
-    def unit(self):
-        found = re.compile(r"[0-9a-fA-F]{4}").match(self.text, self.at)
-        refuse(1, not found)
-        self.at = found.end()
-        return int(found[0], 16)
+def json_of(data):
+    """JSON as serde_json reads it: no lone surrogate, and at most 127 levels."""
+    refuse(4, len(data) > MOST_BYTES)
+    try:
+        text = data.decode("utf-8")
+        value = json.loads(text, parse_int=number, parse_float=number, parse_constant=lambda _: refuse(1))
+    except (ValueError, RecursionError):
+        refuse(1)
+    refuse(1, depth_of(text) > 127 or any(it[1] for it in ESCAPE.finditer(text)))
+    return value
 
 
 def shaped(found):
@@ -251,7 +173,7 @@ class Document:
     """A document that has none of the faults."""
 
     def __init__(self, data):
-        whole = Reader(data).whole()
+        whole = json_of(data)
         shaped(isinstance(whole, dict) and is_whole(whole.get("version")))
         version = self.version = whole["version"]
         keys = ["version", "classes", "categories", "objects", "imps", "items"] + (["made"] if version in (2, 3) else [])
@@ -362,6 +284,15 @@ class Document:
         for _ in self.classes:
             at = above.get(at)
         return at is not None
+
+
+def fault_of(data, read=Document):
+    """The number of a document's fault, 0 where it has none."""
+    try:
+        read(data)
+    except DocumentFault as fault:
+        return fault.args[0]
+    return 0
 
 
 class Refused(Exception):

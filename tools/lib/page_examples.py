@@ -4,7 +4,7 @@ import os
 import re
 from typing import NamedTuple
 
-from words import ROOT
+from words import ROOT, text_at
 
 PAGE = os.path.join(ROOT, "docs", "FORMAT.md")
 UNSEEN = "In an editor"
@@ -88,5 +88,4 @@ def explained(page):
 
 
 def read():
-    with open(PAGE, encoding="utf-8") as it:
-        return it.read()
+    return text_at(PAGE)

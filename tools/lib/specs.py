@@ -5,7 +5,7 @@ import os
 import re
 from typing import NamedTuple
 
-from words import ROOT
+from words import ROOT, text_at
 
 CRATES = os.path.join(ROOT, "crates")
 NAME = r"[A-Za-z_][\w'\-]*"
@@ -35,10 +35,7 @@ class Item(NamedTuple):
         return self.file.endswith(".rt")
 
 
-@functools.lru_cache(None)
-def text_of(path):
-    with open(os.path.join(ROOT, path), encoding="utf-8") as it:
-        return it.read()
+text_of = functools.lru_cache(None)(text_at)
 
 
 def crates():

@@ -6,27 +6,21 @@
 #include "seat.h"
 #include "msg_objc.h"
 
-/* A method that gets a function, which has that number: of the record's class, or, where there is
- * no record, of none. Where it is NULL it is new. `before`: what was called. */
+/* A method that gets a function: of the record's class, or, where there is no record, of none.
+ * Where it is NULL it is new. `before`: what was called. */
 struct part {
     struct record *record;
     Method method;
     SEL sel;
     IMP imp, before;
     const char *types;
-    uint32_t number;
 };
 
-/* The count is read first: so many rows any array has that is there then. The last of a name
- * counts. */
-static Method method_of(struct record *record, uint32_t sel)
+static Method method_of(const struct record *record, uint32_t sel)
 {
-    uint32_t count = record->count;
-    if (!count) return NULL;
-    struct row *first = record->rows->at, *row = first + count;
-    while (row > first)
-        if ((--row)->sel == sel) return row->method;
-    return NULL;
+    const struct row *row = LOAD(record->rows);
+    while (row && row->sel != sel) row = row->before;
+    return row ? row->method : NULL;
 }
 
 /* Goes through a class in construction, which has no place in the tables, to its superclass. */
@@ -66,49 +60,37 @@ static void note_home(const struct record *record, Method method)
     if (record->number) free(shim_index(&homes, shim_mixed_word((uintptr_t)method), slot));
 }
 
-/* `more`: how many come to the record now, this one counted. */
-static void stand(struct record *record, Method method, uint32_t more)
+static void stand(struct record *record, Method method, struct row *row)
 {
-    uint32_t count = record->count;
-    if (count + more > record->room) {
-        record->room = count + count / 2 + more;
-        struct rows *before = record->rows;
-        struct rows *rows = shim_memory(sizeof *rows + record->room * sizeof *rows->at);
-        rows->before = before;
-        if (before) memcpy(rows->at, before->at, count * sizeof *rows->at);
-        record->rows = rows;
-    }
-    record->rows->at[count] = (struct row){shim_sel(method->name.sel), method};
-    record->count = count + 1;
+    *row = (struct row){record->rows, method, shim_sel(method->name.sel)};
+    STORE(record->rows, row);
     note_home(record, method);
 }
 
-static msg_change replacing(const struct record *record, SEL sel, uint32_t number)
+static msg_change replacing(const struct record *of, SEL sel, IMP imp)
 {
-    return (msg_change){MSG_REPLACES, record->number, record->meta, shim_sel(sel), number, 0, 0, 0};
+    return (msg_change){MSG_REPLACES,     of->number, of->meta, shim_sel(sel),
+                        shim_number(imp), 0,          0,        0};
 }
 
 /* ---- what a module or a class pair brings, until it is made ---- */
 
-static struct coming {
-    struct record *record;
-    Method method;
-} * coming; /* to the rows */
 static msg_change *changes;
+static Method *coming; /* of each change: to the rows, or NULL */
 static uint32_t coming_count, coming_room, change_count, change_room;
 
-static void bring(msg_change change)
+static void bring(msg_change change, Method comes)
 {
     changes = shim_more(changes, change_count, &change_room, sizeof *changes);
-    changes[change_count++] = change;
+    coming = shim_more(coming, change_count, &coming_room, sizeof *coming);
+    coming_count += comes != NULL;
+    changes[change_count] = change;
+    coming[change_count++] = comes;
 }
 
-void shim_bring_method(struct record *record, Method method, bool is_new)
+void shim_bring_method(struct record *record, Method method)
 {
-    bring(replacing(record, method->name.sel, shim_number(method->imp)));
-    if (!is_new) return;
-    coming = shim_more(coming, coming_count, &coming_room, sizeof *coming);
-    coming[coming_count++] = (struct coming){record, method};
+    bring(replacing(record, method->name.sel, method->imp), method);
 }
 
 void shim_bring_class(Class class_)
@@ -116,11 +98,11 @@ void shim_bring_class(Class class_)
     Class above = class_->superclass.class_;
     struct record *both[2] = {class_->record, class_->isa->record};
     uint32_t kind = above ? MSG_MAKES_CLASS : MSG_MAKES_ROOT_CLASS;
-    bring((msg_change){kind, both[0]->number, .other = above ? above->record->number : 0});
+    bring((msg_change){kind, both[0]->number, .other = above ? above->record->number : 0}, NULL);
     for (int j = 0; j < 2; j++)
-        for (uint32_t i = 0; i < both[j]->count; i++) {
-            shim_bring_method(both[j], both[j]->rows->at[i].method, false);
-            note_home(both[j], both[j]->rows->at[i].method);
+        for (struct row *row = both[j]->rows; row; row = row->before) {
+            bring(replacing(both[j], row->method->name.sel, row->method->imp), NULL);
+            note_home(both[j], row->method);
         }
 }
 
@@ -128,10 +110,9 @@ void shim_make(const char *what)
 {
     size_t place;
     shim_must(msg_change_all(shim_runtime, changes, change_count, &place), what);
-    for (uint32_t i = 0, end = 0; i < coming_count; i++) {
-        while (end <= i || (end < coming_count && coming[end].record == coming[i].record)) end++;
-        stand(coming[i].record, coming[i].method, end - i);
-    }
+    struct row *rows = coming_count ? shim_memory(coming_count * sizeof *rows) : NULL;
+    for (uint32_t i = 0; i < change_count; i++)
+        if (coming[i]) stand(record_at(changes[i].number, changes[i].meta), coming[i], rows++);
     free(coming);
     free(changes);
     coming = NULL;
@@ -146,7 +127,7 @@ void shim_make(const char *what)
 static struct part part_of(struct record *at, Method method, SEL sel, IMP imp, const char *types)
 {
     IMP before = method ? shim_imp(method) : NULL;
-    return (struct part){at, method, sel, imp, before, types, shim_number(imp)};
+    return (struct part){at, method, sel, imp, before, types};
 }
 
 static Method new_method(const struct part *part)
@@ -157,28 +138,22 @@ static Method new_method(const struct part *part)
     return method;
 }
 
-static bool is_in_tables(const struct part *part) { return part->record && part->record->number; }
-
 /* In the rows, after the tables. */
 static inline void settle(const struct part *part)
 {
     if (part->method) STORE(part->method->imp, part->imp);
-    else stand(part->record, new_method(part), 1);
-}
-
-static inline void cache(const struct part *part)
-{
-    if (is_in_tables(part)) msg_process_cache(shim_key(part->record, part->sel));
+    else stand(part->record, new_method(part), shim_memory(sizeof(struct row)));
 }
 
 static inline void make_one(const struct part *part)
 {
     struct record *of = part->record;
-    uint32_t sel = shim_sel(part->sel);
-    if (is_in_tables(part))
-        shim_must(msg_replace(shim_runtime, of->number, of->meta, sel, part->number), "replace");
+    uint32_t sel = shim_sel(part->sel), number = shim_number(part->imp);
+    bool is_in_tables = of && of->number;
+    if (is_in_tables)
+        shim_must(msg_replace(shim_runtime, of->number, of->meta, sel, number), "replace");
     settle(part);
-    cache(part);
+    if (is_in_tables) msg_process_cache(shim_key(of, part->sel));
 }
 
 /* ---- as programs ask for them ---- */
@@ -275,12 +250,12 @@ size_t objc_replace_methods(struct objc_method_swap *rows, size_t count)
     msg_change *all = shim_memory(count * sizeof *all);
     size_t place = 0;
     for (; place < count && plan_swap(rows, place, &parts[place]); place++)
-        all[place] = replacing(parts[place].record, parts[place].sel, parts[place].number);
+        all[place] = replacing(parts[place].record, parts[place].sel, parts[place].imp);
     bool made = place == count && !msg_change_all(shim_runtime, all, count, &place);
     for (size_t i = 0; made && i < count; i++) settle(&parts[i]);
     for (size_t i = 0; made && i < count; i++) {
         rows[i].imp = parts[i].before;
-        cache(&parts[i]);
+        msg_process_cache(shim_key(parts[i].record, parts[i].sel));
     }
     free(parts);
     free(all);
@@ -337,8 +312,10 @@ Method *class_copyMethodList(Class class_, unsigned int *count)
 {
     LOCKED;
     struct record *record = class_ ? class_->record : NULL;
-    unsigned int many = record && record->number ? record->count : 0;
-    Method *list = shim_list(many, sizeof *list, count);
-    for (unsigned int i = 0; i < many; i++) list[i] = record->rows->at[many - 1 - i].method;
+    struct row *newest = record && record->number ? record->rows : NULL;
+    unsigned int many = 0;
+    for (struct row *row = newest; row; row = row->before) many++;
+    Method *list = shim_list(many, sizeof *list, count), *next = list;
+    for (struct row *row = newest; row; row = row->before) *next++ = row->method;
     return list;
 }

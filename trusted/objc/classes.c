@@ -138,9 +138,9 @@ static void free_class(Class class_)
         free((char *)class_->ivars->rows[i].name);
         free((char *)class_->ivars->rows[i].type);
     }
-    for (uint32_t i = 0; i < record->count; i++) {
-        free((char *)record->rows->at[i].method->types);
-        free(record->rows->at[i].method);
+    for (struct row *row = record->rows; row; row = row->before) {
+        free((char *)row->method->types);
+        free(row->method);
     }
     free(class_->ivars);
     free_list(class_->protocols);

@@ -40,7 +40,7 @@ static void take_method(Class class_, struct record *record, Method method)
     method->name.sel = shim_lasting_selector(name, method->types);
     if (record->meta && !strcmp(name, "load"))
         note_load(class_, NULL, method->imp, method->name.sel);
-    shim_bring_method(record, method, true);
+    shim_bring_method(record, method);
 }
 
 static void take_lists(Class class_, struct record *record, struct method_list *list)

@@ -149,17 +149,13 @@ static __attribute__((noinline, cold)) IMP find_first(Class class_, SEL sel)
 }
 
 /* Where nothing is noted. A class that was initialized has its part of keys. */
-static inline IMP find_unnoted(Class class_, SEL sel)
-{
-    uint64_t of_class = LOAD(class_->key);
-    if (__builtin_expect(!of_class, 0)) return find_first(class_, sel);
-    IMP imp = find_by_key(class_, sel, of_class + sel->name.key);
-    return __builtin_expect(imp != NULL, 1) ? imp : find_resolved(class_, sel);
-}
-
 static __attribute__((noinline)) IMP find_from(id receiver, SEL sel, Class class_)
 {
-    IMP imp = find_unnoted(class_, sel);
+    uint64_t of_class = LOAD(class_->key);
+    bool is_first = __builtin_expect(!of_class, 0);
+    IMP imp =
+        is_first ? find_first(class_, sel) : find_by_key(class_, sel, of_class + sel->name.key);
+    if (__builtin_expect(!imp, 0) && !is_first) imp = find_resolved(class_, sel);
     return __builtin_expect(imp != NULL, 1) ? imp : shim_forward(receiver, sel);
 }
 

@@ -31,28 +31,21 @@ enum { MOST_SELECTORS = (1 << MSG_ROOM) - 1, MOST_IMPS = (1 << MSG_ROOM) - 1 };
 enum { MOST_CLASSES = (1 << 20) - 1, LINE = 64 };
 
 /* A method of a class: what the proved tables hold, kept beside them, since they know numbers
- * alone. The last of a name counts. */
+ * alone. Handlers of signals read rows without the lock. */
 struct row {
-    uint32_t sel;
+    struct row *before;
     Method method;
-};
-
-/* Handlers of signals read rows without the lock: what a larger array took the place of stays,
- * behind it. */
-struct rows {
-    struct rows *before;
-    struct row at[];
+    uint32_t sel;
 };
 
 enum { NOT_YET, RUNNING, DONE };
 
 /* `number` is 0 for a class in construction, which the tables don't hold, and a metaclass's is its
- * class's. `rows`: of all its methods, in the order in which they came. */
+ * class's. `rows`: all its methods, the newest first. Of a name the newest counts. */
 struct record {
     bool meta;
-    uint32_t number, room;
-    _Atomic(uint32_t) count;
-    _Atomic(struct rows *) rows;
+    uint32_t number;
+    struct row *rows;
     /* After how many changes a note said that it has no resolver, and where the stamp lies of the
      * metaclass that was asked. Of none 0, and 0: the count of changes, which is above that. */
     uint64_t unresolved, resolver_stamp;
@@ -179,7 +172,7 @@ void shim_take_protocols(struct protocol_list *list);
 /* changing.c: what a module or a class pair brings, in the order in which it counts, and then all
  * of it as one change. */
 void shim_bring_class(Class class_); /* with the methods that it has by now */
-void shim_bring_method(struct record *record, Method method, bool is_new); /* or one of those */
+void shim_bring_method(struct record *record, Method method);
 void shim_make(const char *what);
 Method shim_standing(Class class_, uint32_t sel); /* what the rows say; also without the lock */
 static inline IMP shim_imp(Method method) { return LOAD(method->imp); }

@@ -312,10 +312,11 @@ class Calls(unittest.TestCase):
             self.assertRaises(yeldrost.WrongThreadError, sender.find, CHILDREN, VALUE)
 
     def test_threads_beside_changes(self):
-        over, wrong = threading.Event(), []
+        over, wrong, all_began = threading.Event(), [], threading.Barrier(4)
 
         def work():
             with runtime.sender() as sender:
+                all_began.wait()
                 while not over.is_set():
                     if sender.find(CHILDREN, NAME) not in (3, 8):
                         wrong.append("between")
@@ -326,6 +327,7 @@ class Calls(unittest.TestCase):
             threads = [threading.Thread(target=work) for _ in range(3)]
             for it in threads:
                 it.start()
+            all_began.wait()
             for at in range(1001):
                 runtime.replace(CHILDREN, NAME, 3 if at % 2 else 8)
             over.set()

@@ -1,6 +1,6 @@
--- Where something lies.
+-- Addresses in memory.
 use denote.RawPtr.{Ptr, InBlock}
 
--- an address is one of a block of memory
+-- an address lies in a block of memory
 abbrev pub IsNotNull : Ptr → Type 0
 IsNotNull p = InBlock p

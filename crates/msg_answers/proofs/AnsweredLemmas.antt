@@ -33,7 +33,7 @@ last_is : (h p : History) (points : List History) → p ≡ h → AllAre h point
 last_is h p [] same all = same
 last_is h p (q ∷ qs) same all = last_is h q qs all.0 all.1
 
--- where the last history is no longer, each reply is the one at the first
+-- if the last history is no longer, each reply is the one at the first
 pub served_plain : (h : History) (ms : List Meaning) (rs : List Reply) (last : History) → Served h ms rs last → BeginsWith h last → rs ≡ map (plain_reply h) ms
 served_plain h [] [] last s below = refl
 served_plain h [] (r ∷ rs) last s below = absurd s

@@ -1,4 +1,4 @@
--- How many pieces there are, and whose.
+-- The number of pieces, and whose.
 use Rattle.std.proofs.Common.{◌≡◌, ◌≢◌, ◌<◌, ◌≤◌, ◌+◌, ◌-◌, ◌/◌, ◌%◌, ◌⊎◌, ℕ, suc, cond, List, [], ◌∷◌, length, min, refl, sym, ap, ap₂, ◌∙◌, subst, arith, inl, inr}
 use Rattle.std.specs.Prelude.{◌==◌, count_by}
 use Rattle.std.proofs.Math.Nat.{div-eq_of_lt, mod-eq_of_lt, div-eq-sub-div, mod-eq-sub-mod, mul-le-mul_right, div-lt_iff_lt-mul}
@@ -78,7 +78,7 @@ share_none who me i (x ∷ xs) off =
     let rest = share_of who me (i + 1) xs in
     ap (λ b. cond b (x ∷ rest) rest) (ne_eqb (who i) me (off i (omega arith))) ∙ share_none who me (i + 1) xs (λ k lt. off k (omega (arith, lt)))
 
--- where no worker has a second piece, the worker of a place is the number of its piece
+-- if no worker has a second piece, the worker of a place is the number of its piece
 own_piece : (cut used workers n k : ℕ) → 0 < cut → used ≤ workers → pieces_of cut n ≤ used → k < n → (worker_of cut used k ≡ k / cut) × (worker_of cut workers k ≡ k / cut) × (k / cut < used)
 own_piece cut used workers n k some most few lt =
     let cover = (div_ceil_times n cut some).0 in

@@ -14,7 +14,7 @@ use Rattle.msg_answers.specs.Text.{answer_line, text_of, output_of}
 use Rattle.msg_answers.specs.declared.outcome.Outcome.{Outcome}
 use Rattle.msg_answers.specs.declared.outcome.Outcome.TheVariants.{Made, Refused, RefusedAt}
 
--- the tables stand at the history after the items before, and the text with the lines of those left
+-- the tables are at the history after the items before, and the text with the lines of those left
 -- is the whole
 pub record IsSoFar (d : DocumentParts) (tables : TablesView) (text : List ℕ) (left : List ItemParts) : Type 0 where
   pub history : History

@@ -82,7 +82,7 @@ plain_serial image h [] all = refl
 plain_serial image h (SendItem r s args ∷ items) all = ap (λ zs. Replied (plain_reply h (send_of image r s args)) ∷ zs) (plain_serial image h items all)
 plain_serial image h (changes ∷ items) all = absurd all
 
--- where the last history is no longer, the lines are those of one thread
+-- if the last history is no longer, the lines are those of one thread
 pub written_serial : (image : ImageParts) (h last : History) (items : List ItemParts) (old new : List ℕ) → AllSends items → BeginsWith h last
     → AreWritten image h (sends_of image items) last old new → new ≡ old ++ text_of image (serial_from image h items)
 written_serial image h last items old new all below w =

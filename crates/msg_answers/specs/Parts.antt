@@ -1,4 +1,4 @@
--- What contracts see of the items that are answered together, and of a worker's share of them.
+-- The contracts' view of the items that are answered together, and of a worker's share of them.
 use Rattle.std.specs.Prelude.{◌≡◌, ℕ, List, ◌++◌, map, All, Vec}
 use Rattle.std.specs.Global.{Global}
 use Rattle.msg_image.specs.Items.{ItemParts}
@@ -48,7 +48,7 @@ HasWritten p h last old new = AreWritten p.image.now h (sends_of p.image.now (ma
 abbrev pub IsAnsweredBeside : Part → History → List ℕ → List ℕ → Type 0
 IsAnsweredBeside p h old new = AreAnswered p.image.now p.deal.workers p.deal.cut h (map item_parts p.items.now) old new
 
--- it had so many pieces, and so many changes
+-- it had this number of pieces, and this number of changes
 abbrev pub PartPieces : Part → ℕ → Type 0
 PartPieces p pieces = HasPieces p.deal.cut (map item_parts p.items.now) pieces
 

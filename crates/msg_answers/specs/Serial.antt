@@ -15,17 +15,17 @@ use Rattle.msg_eval.specs.Points.{plain_reply}
 use Rattle.msg_answers.specs.declared.outcome.Outcome.{Outcome}
 use Rattle.msg_answers.specs.declared.outcome.Outcome.TheVariants.{Made, Refused, RefusedAt}
 
--- what becomes of a change of this refusal
+-- the outcome of a change with this refusal
 abbrev pub outcome_of : Option ChangeFault → Outcome
 outcome_of None = Made
 outcome_of (Some fault) = Refused fault
 
--- what becomes of changes that are made as one, of which this is the first that would be refused
+-- the outcome of changes that are made as one, of which this is the first that would be refused
 abbrev pub outcome_of_first : Option (ℕ × ChangeFault) → Outcome
 outcome_of_first None = Made
 outcome_of_first (Some first) = RefusedAt (record { place = first.0; fault = first.1 })
 
--- what becomes of an item's changes at a history. A send has none.
+-- the outcome of an item's changes at a history. A send has none.
 abbrev pub outcome_at : History → ItemParts → Outcome
 outcome_at h (SendItem receiver s args) = Made
 outcome_at h (ChangeItem change) = outcome_of (refusal (log h) change)
@@ -43,7 +43,7 @@ longer_by h changes Made = and_as_one h changes
 longer_by h changes (Refused fault) = h
 longer_by h changes (RefusedAt refused) = h
 
--- the history after an item: longer by its changes, where they are made
+-- the history after an item: it has the item's changes added, if they are made
 abbrev pub history_after : History → ItemParts → History
 history_after h item = longer_by h (changes_in item) (outcome_at h item)
 

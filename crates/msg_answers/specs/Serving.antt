@@ -1,4 +1,4 @@
--- What workers answer beside changes, and how sends are shared out.
+-- What workers answer beside changes, and how sends are distributed.
 use Rattle.std.specs.Prelude.{◌≡◌, ℕ, zero, suc, ◌+◌, Bool, true, false, ◌/◌, ◌%◌, ◌<◌, ◌==◌, if◌then◌else◌, List, [], ◌∷◌, ◌++◌, length, min, count_by, slice_index_or}
 use Rattle.msg_image.specs.Items.{ItemParts, SendItem}
 use Rattle.msg_image.specs.Parts.{ImageParts}
@@ -27,7 +27,7 @@ abbrev pub history_of : History → List ItemParts → History
 history_of h [] = h
 history_of h (item ∷ items) = history_of (history_after h item) items
 
--- what becomes of the changes among items
+-- the outcomes of the changes among items
 abbrev pub outcomes_of : History → List ItemParts → List Outcome
 outcomes_of h [] = []
 outcomes_of h (item ∷ items) = if is_send item then outcomes_of h items else outcome_at h item ∷ outcomes_of (history_after h item) items
@@ -58,18 +58,20 @@ Goes false h m old new now = (now ≡ h) × (new ≡ old)
 abbrev pub worker_of : ℕ → ℕ → ℕ → ℕ
 worker_of cut workers place = (place / cut) % workers
 
--- how many pieces of `cut` places so many places make: the whole ones, and one of what is left
+-- how many pieces of `cut` places this number of places make: the whole ones, and one of what is
+-- left
 abbrev pub pieces_of : ℕ → ℕ → ℕ
 pieces_of cut places = places / cut + min 1 (places % cut)
 
--- the sends among items make so many pieces of `cut` sends, and so many of the items are changes
+-- the sends among items make this number of pieces of `cut` sends, and so many of the items are
+-- changes
 abbrev pub HasPieces : ℕ → List ItemParts → ℕ → Type 0
 HasPieces cut items pieces = pieces ≡ pieces_of cut (count_by is_send items)
 
 abbrev pub HasChanges : List ItemParts → ℕ → Type 0
 HasChanges items changes = changes + count_by is_send items ≡ length items
 
--- what stands at the places from i on that belong to a worker
+-- what is at the places from i on that belong to a worker
 abbrev pub share_of : {A : Type 0} → (ℕ → ℕ) → ℕ → ℕ → List A → List A
 share_of who me i [] = []
 share_of who me i (x ∷ xs) = if who i == me then x ∷ share_of who me (i + 1) xs else share_of who me (i + 1) xs
@@ -83,8 +85,8 @@ count_of who me i (suc n) = if who i == me then suc (count_of who me (i + 1) n) 
 abbrev pub at_worker : List (List Reply) → ℕ → List Reply
 at_worker lists w = slice_index_or lists w []
 
--- The lines of items were written after what was there, with replies of which each worker's are its
--- share.
+-- The lines of items were written after what was there, with replies, of which each worker's are
+-- its share.
 pub record IsGathered (image : ImageParts) (who : ℕ → ℕ) (workers : ℕ) (items : List ItemParts) (lists : List (List Reply)) (outcomes : List Outcome) (old new : List ℕ) : Type 0 where
   pub replies : List Reply
   pub count : length replies ≡ length (sends_of image items)
@@ -120,7 +122,7 @@ pub record IsAnswered (image : ImageParts) (who : ℕ → ℕ) (workers : ℕ) (
   pub text : new ≡ old ++ text_of image (woven items replies (outcomes_of h items))
   pub points : (w : ℕ) → w < workers → (last : History) × Served h (share_of who w 0 (sends_of image items)) (share_of who w 0 replies) last × BeginsWith (history_of h items) last
 
--- so many workers answered the items: the piece k of `cut` sends is that of the worker k mod
+-- this number of workers answered the items: the piece k of `cut` sends is that of the worker k mod
 -- workers
 abbrev pub AreAnswered : ImageParts → ℕ → ℕ → History → List ItemParts → List ℕ → List ℕ → Type 0
 AreAnswered image workers cut h items old new = IsAnswered image (worker_of cut workers) workers h items old new

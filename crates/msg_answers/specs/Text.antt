@@ -72,8 +72,7 @@ refusal_text refusals.Memory = codes "out of memory"
 refusal_text refusals.DuplicateClass = codes "duplicate class"
 refusal_text refusals.ClassInUse = codes "class in use"
 
--- where several were to be made as one, the place of the first that would be refused is told, from
--- 0
+-- if several were to be made as one, the place of the first that would be refused, from 0
 abbrev pub outcome_text : Outcome → List ℕ
 outcome_text outcomes.Made = codes "ok"
 outcome_text (outcomes.Refused f) = codes "refused: " ++ refusal_text f

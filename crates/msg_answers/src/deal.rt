@@ -1,9 +1,9 @@
-//! How the sends of a batch are shared out.
+//! How the sends of a batch are distributed.
 
 ghost use Rattle.std.specs.Prelude.{◌≡◌, ◌≤◌, ◌<◌, ◌+◌, ◌^◌, ◌/◌, ◌%◌, ◌==◌};
 ghost use Rattle.msg_answers.specs.Serving.{worker_of};
 
-/// Pieces of `cut` sends, given to the workers in turn. The first has the number `first`.
+/// Pieces of `cut` sends, given to the workers in turn. The first piece has the number `first`.
 #[derive(Clone, Copy)]
 pub struct Deal {
     pub workers: u32,
@@ -14,7 +14,7 @@ pub struct Deal {
 }
 
 impl Deal {
-    /// The worker of a place.
+    /// The worker that takes a place.
     pub fn worker(self, place: usize) -> usize
         ensures turn { result ≡ worker_of self.cut self.workers place }
         ensures below { result < self.workers }
@@ -22,7 +22,7 @@ impl Deal {
         (place / self.cut as usize) % self.workers as usize
     }
 
-    /// The number of a place's piece.
+    /// The number of the piece of a place.
     pub fn piece(self, place: usize) -> u32
         requires { self.first + place < 2 ^ 32 }
         ensures { result ≡ self.first + place / self.cut }
@@ -37,7 +37,7 @@ impl Deal {
         place % self.cut as usize == 0
     }
 
-    /// The same among so many workers.
+    /// The same deal among this number of workers.
     pub fn with_workers(self, workers: u32) -> Deal
         requires { 1 ≤ workers }
         ensures workers { result.workers ≡ workers }
@@ -51,7 +51,7 @@ impl Deal {
         }
     }
 
-    // The deal after so many pieces.
+    // The deal after this number of pieces.
     pub(crate) fn after(self, pieces: u32) -> Deal
         requires { self.first + pieces < 2 ^ 32 }
         ensures workers { result.workers ≡ self.workers }

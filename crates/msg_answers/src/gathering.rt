@@ -21,8 +21,8 @@ fn reply_of(shares: &[Vec<Reply>], worker: usize, at: usize) -> Reply
     shares[worker][at]
 }
 
-/// Appends a line for each item: for a send the reply of the worker that took it, for changes what
-/// became of them.
+/// Appends a line for each item: for a send the reply of the worker that took it, for changes their
+/// outcome.
 pub fn gather(
     alloc: Global,
     text: &mut Vec<u8>,

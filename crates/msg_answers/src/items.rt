@@ -15,7 +15,7 @@ pub fn is_send(item: &Item) -> bool
     matches!(item, Item::Send { .. })
 }
 
-/// How many of the items are sends.
+/// The number of items that are sends.
 pub fn sends_in(items: &[Item]) -> usize
     ensures { result ≡ count_by spec.is_send (map item_parts items.now) }
 {
@@ -25,7 +25,8 @@ pub fn sends_in(items: &[Item]) -> usize
         .count()
 }
 
-/// How many items are a part: all sends before the next item of changes, or one such item.
+/// The number of items in the next part: all sends before the next item of changes, or one such
+/// item.
 pub fn part_len(items: &[Item]) -> usize
     requires { 0 < length items.now }
     ensures some { 0 < result }
@@ -44,7 +45,7 @@ pub fn part_len(items: &[Item]) -> usize
     count
 }
 
-/// Whether a part is an item of changes, and not sends.
+/// Whether a part is an item of changes, and no sends.
 pub fn is_one_change(items: &[Item]) -> bool
     requires { AllSends (map item_parts items.now) ⊎ IsOneChange (map item_parts items.now) }
     ensures changes { result ≡ true → IsOneChange (map item_parts items.now) }

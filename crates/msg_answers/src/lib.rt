@@ -1,5 +1,5 @@
-//! The answers to a document: the lines of one thread's, and those of workers among whom its sends
-//! are shared out.
+//! The answers to a document: the lines of one thread, and those of workers among whom its sends
+//! are distributed.
 #![tactic(auto)]
 
 mod deal;

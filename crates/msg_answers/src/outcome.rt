@@ -1,12 +1,12 @@
-//! What becomes of changes.
+//! The outcome of changes.
 
 use msg_tables::{ChangeFault, Refused};
 
-/// What becomes of a change, or of several that are made as one.
+/// The outcome of a change, or of several that are made as one.
 #[derive(Clone, Copy)]
 pub enum Outcome {
     Made,
     Refused(ChangeFault),
-    /// The first of several that would be refused, and none was made.
+    /// The first of several changes that would be refused. None was made.
     RefusedAt(Refused),
 }

@@ -5,7 +5,7 @@ ghost use Rattle.std.specs.Prelude.{◌≡◌, ◌≤◌, ◌<◌, ◌+◌, ◌^
 use crate::deal::Deal;
 use msg_image::{Image, Item};
 
-/// Items that are answered together, how their sends are shared out, and the number of the first
+/// Items that are answered together, the distribution of their sends, and the number of the first
 /// change among them.
 #[derive(Clone, Copy)]
 pub struct Part<'a> {
@@ -22,11 +22,11 @@ pub struct Part<'a> {
 pub struct Share<'a> {
     pub part: Part<'a>,
     pub worker: u32,
-    /// How many sends the part has.
+    /// The number of sends in the part.
     pub sends: usize,
 }
 
-/// How many pieces and changes a part had.
+/// The numbers of pieces and of changes in a part.
 #[derive(Clone, Copy)]
 pub struct Counts {
     pub pieces: u32,
@@ -50,7 +50,7 @@ impl<'a> Part<'a> {
         }
     }
 
-    /// The last of its items, where those before them had so many pieces and changes.
+    /// The last of its items, if those before them had these numbers of pieces and changes.
     pub fn after(self, counts: Counts, items: &'a [Item]) -> Part<'a>
         requires pieces { counts.pieces + length items.now ≤ length self.items.now }
         requires changes { counts.changes + length items.now ≤ length self.items.now }

@@ -1,6 +1,6 @@
 //! The lines of answers.
 //!
-//! Each part is appended in place: a line takes no memory beside the text's own growth, and that
+//! Each part is appended in place: a line takes no memory apart from the text's own growth, which
 //! doubles.
 
 ghost use Rattle.std.specs.Prelude.{◌≡◌, OnOk};
@@ -149,7 +149,7 @@ fn push_refused_at(text: &mut Vec<u8>, refused: Refused) -> Result<(), AllocErro
     push(text, refusal_text(refused.fault))
 }
 
-/// Appends the line of what became of changes.
+/// Appends the line of the outcome of changes.
 pub fn push_outcome(text: &mut Vec<u8>, outcome: Outcome) -> Result<(), AllocError>
     ensures { OnOk result (Gains text.old text.new (line_of (outcome_text outcome))) }
 {

@@ -15,7 +15,7 @@ use msg_tables::Tables;
 use std::alloc::{AllocError, Global};
 use std::marker::Model;
 
-// So many arrays of 4, 8, 16, .. words. What a class grows out of is free for the next one.
+// This number of arrays of 4, 8, 16, .. words. What a class grows out of is free for the next one.
 const ARRAYS: [u16; 9] = [1, 1, 1, 32, 0, 0, 0, 0, 0];
 
 /// An arena for 64 senders, its keeper, and tables at the same history.
@@ -33,7 +33,7 @@ pub(crate) fn open(alloc: Global) -> Result<(Arena, Keeper, Tables)>
     opened(alloc, &image, config)
 }
 
-// The same of an image of 32 classes.
+// The same for an image of 32 classes.
 fn opened(alloc: Global, image: &Image, config: Config) -> Result<(Arena, Keeper, Tables)>
     requires { class_total (origin_of image.now) ≡ 32 }
     ensures { IfOk result (λ r. Begin r.0 r.1 r.2) }
@@ -114,7 +114,7 @@ impl<'a> Bed<'a> {
         })
     }
 
-    /// The first senders, where there are so many.
+    /// The first senders, if there are as many.
     pub(crate) fn senders(
         &mut self,
         alloc: Global,
@@ -140,7 +140,8 @@ pub(crate) struct Sender<'a> {
 }
 
 impl Sender<'_> {
-    /// Makes so many probes, from one query on, and adds up the implementations that are found.
+    /// Makes this number of probes, from one query on, and adds up the implementations that are
+    /// found.
     pub(crate) fn probe(&mut self, queries: &Queries, first: usize, probes: u64) -> u64 {
         let mut sum = 0u64;
         let mut at = first;

@@ -4,7 +4,7 @@ use anyhow::{Context, Result};
 use msg_image::{Image, read_document};
 use std::alloc::{AllocError, Global};
 
-/// How many classes there are.
+/// The number of classes.
 pub(crate) const CLASSES: u32 = 32;
 
 /// The selectors that are sought are numbered from 1 to this one.

@@ -1,4 +1,4 @@
-//! What is cached, and in which order it is sought.
+//! What is cached, and in which order it is looked for.
 
 ghost use Rattle.std.specs.Prelude.{◌≡◌, ◌<◌, ◌≤◌, length};
 
@@ -8,12 +8,12 @@ use anyhow::{Context, Result};
 use msg_names::{ClassRef, Selector};
 use std::alloc::{AllocError, Global};
 
-/// How many classes have caches, and how many selectors each of them has.
+/// The number of classes with caches, and the number of selectors of each.
 #[derive(Clone, Copy)]
 pub(crate) enum Load {
     /// One class, which has one.
     Mono,
-    /// All 32 classes, of which each has 24.
+    /// All 32 classes, each of which has 24.
     Mix,
 }
 
@@ -45,7 +45,7 @@ impl Load {
     }
 }
 
-/// What a probe seeks.
+/// What a probe looks for.
 #[derive(Clone, Copy)]
 pub(crate) struct Query {
     pub(crate) class: ClassRef,
@@ -65,8 +65,8 @@ fn entries(alloc: Global, draws: &mut Draws, load: Load) -> Result<Vec<Query>, A
     Ok(entries)
 }
 
-// So many selectors, of which no two are one, where a thousand draws give so many. After each one
-// number is drawn and left, where the other program draws an implementation.
+// This number of selectors, of which no two are one, where a thousand draws give so many. After
+// each one number is drawn and left, where the other program draws an implementation.
 fn draw_selectors(
     alloc: Global,
     draws: &mut Draws,
@@ -95,7 +95,7 @@ pub(crate) fn drawn(alloc: Global, load: Load) -> Result<(Vec<Query>, Queries)> 
     Ok((entries, queries))
 }
 
-/// How many queries there are, before they come again.
+/// The number of queries, before they come again.
 pub(crate) const QUERY_COUNT: usize = 4096;
 
 /// Queries, in the order in which they are sought.

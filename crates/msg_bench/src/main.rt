@@ -1,10 +1,10 @@
 //! How long probes that hit take: `msg_bench mono|mix PROBES [WAY | SENDERS WINDOWS]`.
 //!
 //! Without senders one thread makes so many probes, and the sum of the implementations that they
-//! find is printed. A way is one of tables, probe, notes, recalled and refreshed: so many lookups
-//! are made in that way, by a sender of a dispatcher where it isn't tables. With them each sender
-//! makes so many in each window, in a thread of its own, and its nanoseconds are printed for each
-//! window, those of one sender after those of another.
+//! find is printed. A way is one of tables, probe, notes, recalled and refreshed: this number of
+//! lookups are made in that way, by a sender of a dispatcher where it isn't tables. With them each
+//! sender makes so many in each window, in a thread of its own, and its nanoseconds are printed for
+//! each window, those of one sender after those of another.
 #![tactic(auto)]
 
 mod bed;

@@ -8,7 +8,7 @@ use std::thread::Threads;
 use std::time::{Clock, Instant};
 use std::{io, thread};
 
-// A sender, and where in the queries it begins.
+// A sender, and the query at which it begins.
 #[derive(Drop)]
 struct Runner<'a> {
     sender: Sender<'a>,

@@ -10,14 +10,14 @@ use crate::document::image;
 use crate::load::{Load, QUERY_COUNT, Queries, drawn};
 use anyhow::{Context, Result, bail};
 use msg_cache::{Arena, Config, Keeper};
-use msg_dispatch::{ArenaName, Dispatcher, Recalling, Sender};
+use msg_dispatch::{ArenaName, CachingSender, Dispatcher, Sender};
 use msg_image::Image;
 use msg_tables::Tables;
 use std::alloc::Global;
 use std::marker::Brand;
 use std::sync::Wait;
 
-/// So many lookups of queries in a way.
+/// This number of lookups of queries in a way.
 #[derive(Clone, Copy)]
 struct Course<'q> {
     way: Way,
@@ -36,7 +36,7 @@ pub(crate) enum Way {
     Notes,
     /// The same, first by a call that can't wait.
     Recalled,
-    /// The same, once it knows how many changes there are.
+    /// The same, once it knows the number of changes.
     Refreshed,
 }
 
@@ -59,7 +59,7 @@ const ARRAYS: [u16; 9] = [32, 32, 32, 32, 0, 0, 0, 0, 0];
 // A sender with notes, of an image of 32 classes.
 #[derive(Drop)]
 struct Noter<'d, N: ArenaName> {
-    sender: Recalling<'d, N>,
+    sender: CachingSender<'d, N>,
     ghost all: { class_total sender.sender.seen.front.origin ≡ 32 },
 }
 
@@ -122,7 +122,7 @@ impl<N: ArenaName> Caller<'_, N> {
     }
 }
 
-// What so many lookups find along the chain, added up.
+// The sum of what this number of lookups find along the chain.
 fn sum_by_tables(tables: &Tables, queries: &Queries, lookups: u64) -> u64
     requires { length tables.now.supers ≡ 32 }
 {
@@ -135,7 +135,7 @@ fn sum_by_tables(tables: &Tables, queries: &Queries, lookups: u64) -> u64
     sum
 }
 
-// What lookups by a sender find, added up.
+// The sum of what lookups by a sender find.
 fn sum_by_sender<N: ArenaName, R: Wait>(
     rt: &R,
     alloc: Global,
@@ -154,7 +154,7 @@ fn sum_by_sender<N: ArenaName, R: Wait>(
         let mut caller = Caller { sender };
         return Ok(caller.find(rt, queries, lookups));
     }
-    let sender = Recalling::new(alloc, sender).ok().context("notes")?;
+    let sender = CachingSender::new(alloc, sender).ok().context("notes")?;
     let mut noter = Noter { sender };
     Ok(match way {
         Way::Recalled => noter.recall_or_find(rt, queries, lookups),
@@ -184,7 +184,7 @@ fn sum_over<N: ArenaName, R: Wait>(
     sum_by_sender(rt, alloc, &dispatcher, course)
 }
 
-// What so many lookups along the chain find, added up.
+// The sum of what this number of lookups along the chain find.
 fn sum_along(alloc: Global, image: &Image, queries: &Queries, lookups: u64) -> Result<u64>
     requires { class_total (origin_of image.now) ≡ 32 }
 {
@@ -192,7 +192,7 @@ fn sum_along(alloc: Global, image: &Image, queries: &Queries, lookups: u64) -> R
     Ok(sum_by_tables(&tables, queries, lookups))
 }
 
-// What lookups by a sender find, added up.
+// The sum of what lookups by a sender find.
 fn sum_in<R: Wait>(rt: &R, alloc: Global, image: &Image, course: Course<'_>) -> Result<u64>
     requires { class_total (origin_of image.now) ≡ 32 }
 {
@@ -204,7 +204,7 @@ fn sum_in<R: Wait>(rt: &R, alloc: Global, image: &Image, course: Course<'_>) -> 
     sum_over::<Brand, R>(rt, alloc, arena, keeper, image, course)
 }
 
-// What lookups of an image find, added up.
+// The sum of what lookups of an image find.
 fn sum_of_image<R: Wait>(rt: &R, alloc: Global, image: &Image, course: Course<'_>) -> Result<u64> {
     if image.class_count() != 32 {
         bail!("not 32 classes");
@@ -215,7 +215,7 @@ fn sum_of_image<R: Wait>(rt: &R, alloc: Global, image: &Image, course: Course<'_
     }
 }
 
-/// What so many lookups of a load find in a way, added up.
+/// The sum of what this number of lookups of a load find in a way.
 pub(crate) fn sum_of<R: Wait>(
     rt: &R,
     alloc: Global,

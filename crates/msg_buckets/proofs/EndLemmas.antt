@@ -28,7 +28,7 @@ found_at-same sel place word positive same =
 pub found_at-free : (place word : ℕ) → word ≡ 0 → found_at (Some (place, word)) ≡ empty place
 found_at-free place word free = rw free refl
 
--- one word more, read where none has ended the probe
+-- one more word, read after words none of which ended the probe
 module _ (sel : ℕ) (reads : List (ℕ × ℕ)) (read : ℕ × ℕ) (none : end_of sel reads ≡ None) where
   pub read_ends : ends sel read.1 ≡ true → end_of sel (reads ++ read ∷ []) ≡ Some read
   read_ends is = find-append (λ r. ends sel r.1) reads (read ∷ []) ∙ rw (none, is) refl
@@ -55,7 +55,7 @@ end_of-reads_of (w ∷ ws) sel read e =
     let same : read.0 ≡ probe_place sel (length words) at.0 = ap (λ (r : ℕ × ℕ). r.0) at.1 in
     (at.1 ∙ ap (read_at words) (sym same), rw same (mod_below (sel + at.0) (length words) (omega arith)), at.2)
 
--- where a probe doesn't end, no word ends it
+-- if a probe doesn't end, no word ends it
 pub none_ends : (sel : ℕ) (reads : List (ℕ × ℕ)) → end_of sel reads ≡ None → (k : ℕ) (d : ℕ × ℕ) → k < length reads → ends sel (get_or reads k d).1 ≡ false
 none_ends sel [] e k d h = absurd (omega arith)
 none_ends sel (x ∷ xs) e zero d h = at_test (ends sel x.1) e
@@ -69,7 +69,7 @@ none_ends sel (x ∷ xs) e (suc k) d h = none_ends sel xs (at_test (ends sel x.1
     at_test true e = cc
     at_test false e = e
 
--- an end stays the end where the array changes at an empty bucket alone
+-- an end stays the end if the array changes only at an empty bucket
 module _ (sel p q : ℕ) (old new : List ℕ) (free : slice_index old p ≡ 0) (others : (r : ℕ) → r ≢ p → slice_index new r ≡ slice_index old r) (still : ends sel (slice_index new q) ≡ true) where
   pub end_stays : (places : List ℕ) → end_of sel (map (read_at old) places) ≡ Some (read_at old q) → end_of sel (map (read_at new) places) ≡ Some (read_at new q)
   end_stays [] e = cc
@@ -82,7 +82,7 @@ module _ (sel p q : ℕ) (old new : List ℕ) (free : slice_index old p ≡ 0) (
           let other : r ≢ p = λ same. both_ways (ends sel (slice_index old r)) is (rw (same, free) refl) in
           rw (others r other, is) (rest e)
 
--- what was found says where the probe ended
+-- what was found determines where the probe ended
 found_empty : (o : Option (ℕ × ℕ)) (place : ℕ) → found_at o ≡ empty place → o ≡ Some (place, 0)
 found_empty None place e = cc
 found_empty (Some read) place e = at_test (read.1 == 0) refl e

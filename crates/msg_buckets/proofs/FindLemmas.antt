@@ -24,20 +24,20 @@ get_or-reads_of words sel k h =
 abbrev pub reads_before : List ℕ → ℕ → ℕ → List (ℕ × ℕ)
 reads_before words sel k = take k (reads_of words sel)
 
--- a probe that has ended stays so
+-- a probe that has ended stays ended
 ended : (words : List ℕ) (sel k : ℕ) (read : ℕ × ℕ) → end_of sel (reads_before words sel k) ≡ Some read → find_in words sel ≡ found_at (Some read)
 unfolding find_in
 ended words sel k read e =
     ap (λ reads. found_at (end_of sel reads)) (sym (take-append-drop k (reads_of words sel))) ∙ ap found_at (find-append (λ r. ends sel r.1) (reads_before words sel k) (drop k (reads_of words sel))) ∙ rw e refl
 
--- one that didn't end all round has wrapped
+-- a probe that didn't end in the whole array has wrapped
 pub find_in-wrapped : (words : List ℕ) (sel k : ℕ) → end_of sel (reads_before words sel k) ≡ None → length words ≤ k → find_in words sel ≡ wrapped
 unfolding find_in
 find_in-wrapped words sel k none all =
     let whole : reads_before words sel k ≡ reads_of words sel = take_all k (reads_of words sel) (omega (arith, length-reads_of words sel)) in
     rw (← whole, none) refl
 
--- the step after k that ended nothing
+-- the step after k words that didn't end the probe
 module _ (words : List ℕ) (sel k place : ℕ) (none : end_of sel (reads_before words sel k) ≡ None) (here : k < length words) (at : place ≡ probe_place sel (length words) k) where
   next_read : reads_before words sel (k + 1) ≡ reads_before words sel k ++ read_at words place ∷ []
   next_read =

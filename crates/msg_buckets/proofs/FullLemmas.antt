@@ -9,7 +9,7 @@ use Rattle.msg_buckets.proofs.PlaceLemmas.{step_of_place}
 use Rattle.msg_buckets.proofs.EndLemmas.{none_ends, found_wrapped}
 use Rattle.msg_buckets.proofs.FindLemmas.{length-reads_of, get_or-reads_of}
 
--- where no word is 0 each counts
+-- if no word is 0, each word counts
 all_count : (words : List ℕ) → ((place : ℕ) → place < length words → slice_index words place ≢ 0) → occupied_in words ≡ length words
 all_count [] h = refl
 all_count (w ∷ ws) h =
@@ -17,7 +17,7 @@ all_count (w ∷ ws) h =
     let here : (w == 0) ≡ false = ne_eqb w 0 (h 0 (omega arith)) in
     sum_by-cons (λ word. cond (not (word == 0)) 1 0) w ws ∙ rw here (omega arith)
 
--- a probe that ends nowhere has passed each place
+-- a probe that doesn't end has passed each place
 passed_place : (words : List ℕ) (sel place : ℕ) → end_of sel (reads_of words sel) ≡ None → place < length words → ends sel (slice_index words place) ≡ false
 passed_place words sel place none less =
     let k = step_of_place sel (length words) place less in

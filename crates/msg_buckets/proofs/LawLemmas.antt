@@ -14,7 +14,7 @@ use Rattle.msg_buckets.proofs.EndLemmas.{hit_entry, read_ends, read_passes, same
 use Rattle.msg_buckets.proofs.PutLemmas.{entry_hit, find_in-written, reachable-written, hit_in-written, occupied-written, fresh_reachable, find_in-fresh, hit_in-fresh, occupied_in-fresh}
 use Rattle.msg_buckets.proofs.FullLemmas.{wrapped_is_full}
 
--- one word more of a probe
+-- one more word of a probe
 module _ (sel : ℕ) (reads : List (ℕ × ℕ)) (place word : ℕ) (none : end_of sel reads ≡ None) where
   pub read_hit : 0 < sel → sel_of word ≡ sel → found_at (end_of sel (reads ++ (place, word) ∷ [])) ≡ hit (imp_of word)
   read_hit positive same = ap found_at (read_ends sel reads (place, word) none (same_ends sel word same)) ∙ found_at-same sel place word positive same

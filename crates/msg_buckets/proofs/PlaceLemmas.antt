@@ -22,7 +22,7 @@ probe_place-next sel capacity k = mod-add-mod (sel + k) capacity 1 ∙ ap (λ n.
 from_first : (sel n k : ℕ) → probe_place sel n k ≡ (sel % n + k) % n
 from_first sel n k = sym (mod-add-mod sel n k)
 
--- a probe comes to every place
+-- a probe visits every place
 pub step_of_place : (sel n place : ℕ) → place < n → (k : ℕ) × (k < n) × (probe_place sel n k ≡ place)
 step_of_place sel n place h =
     let low : sel % n < n = mod_below sel n (omega arith) in

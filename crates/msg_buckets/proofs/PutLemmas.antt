@@ -11,7 +11,7 @@ use Rattle.msg_buckets.specs.Array.{reads_of, find_in, hit_in, IsReachable, Ends
 use Rattle.msg_buckets.proofs.EndLemmas.{same_ends, end_stays, empty_at, HasEntry, hit_entry}
 use Rattle.msg_buckets.proofs.FindLemmas.{find_in-empty}
 
--- where each entry is reachable, one that is there is hit
+-- if each entry is reachable, an entry of the array is hit
 pub entry_hit : (words : List ℕ) (sel imp : ℕ) → IsReachable words → HasEntry words sel imp → hit_in words sel ≡ Some imp
 unfolding find_in
 entry_hit words sel imp reachable has =
@@ -27,7 +27,7 @@ same_hit (Some x) b f g = sym (f x refl)
 abbrev one_if_entry : ℕ → ℕ
 one_if_entry word = cond (not (word == 0)) 1 0
 
--- an array with a word of the selector where the selector's probe found an empty bucket
+-- an array in which a word of the selector replaces the empty bucket that its probe found
 module _ (words : List ℕ) (sel word place : ℕ) (has : sel_of word ≡ sel) (found : find_in words sel ≡ empty place) where
   abbrev new : List ℕ
   new = slice_set words place word

@@ -24,37 +24,37 @@ find_in words sel = found_at (end_of sel (reads_of words sel))
 abbrev pub hit_in : List ℕ → ℕ → Option ℕ
 hit_in words sel = hit_of (find_in words sel)
 
--- the answer of a probe that ran
+-- the result of a probe of the program
 abbrev pub found_of : Probe → Found
 found_of (Hit imp) = hit (imp_number imp)
 found_of (Empty place) = empty place
 found_of Wrapped = wrapped
 
--- a fact about the place of the empty bucket, where the answer is one
+-- a fact about the place of the empty bucket, if the result is one
 abbrev pub IfEmpty : Probe → (ℕ → Type 0) → Type 0
 IfEmpty (Hit imp) P = Unit {0}
 IfEmpty (Empty place) P = P place
 IfEmpty Wrapped P = Unit {0}
 
--- a fact where the answer is that the probe wrapped
+-- a fact that holds if the probe wrapped
 abbrev pub OnWrapped : Probe → Type 0 → Type 0
 OnWrapped (Hit imp) P = Unit {0}
 OnWrapped (Empty place) P = Unit {0}
 OnWrapped Wrapped P = P
 
--- a fact where an entry was put
+-- a fact that holds if an entry was put
 abbrev pub OnAt : Placed → Type 0 → Type 0
 OnAt Present P = Unit {0}
 OnAt (At place) P = P
 OnAt Full P = Unit {0}
 
--- where an entry goes, by what the probe of its selector found
+-- what is done with an entry, by what the probe of its selector found
 abbrev pub placed_of : Found → Placed
 placed_of (hit imp) = Present
 placed_of (empty place) = At place
 placed_of wrapped = Full
 
--- the words after that
+-- the words after an entry was put, by what the probe of its selector found
 abbrev pub words_after : Found → ℕ → List ℕ → List ℕ
 words_after (hit imp) word words = words
 words_after (empty place) word words = slice_set words place word
@@ -64,7 +64,7 @@ words_after wrapped word words = words
 abbrev pub put_in : List ℕ → ℕ → ℕ → List ℕ
 put_in words sel imp = words_after (find_in words sel) (word_of sel imp) words
 
--- how many entries an array has
+-- the number of entries of an array
 abbrev pub occupied_in : List ℕ → ℕ
 occupied_in words = count_by (λ word. not (word == 0)) words
 
@@ -72,7 +72,7 @@ occupied_in words = count_by (λ word. not (word == 0)) words
 abbrev pub EndsAt : List ℕ → ℕ → ℕ → Type 0
 EndsAt words sel place = end_of sel (reads_of words sel) ≡ Some (read_at words place)
 
--- each entry is where a probe of its selector ends: none is hidden behind an empty bucket or behind
+-- each entry is where a probe of its selector ends: none is hidden after an empty bucket or after
 -- another entry of its selector
 pub record IsReachable (words : List ℕ) : Type 0 where
   pub reached : (place : ℕ) → slice_index words place ≢ 0 → EndsAt words (sel_of (slice_index words place)) place

@@ -17,7 +17,7 @@ imp_of word = word % 2 ^ 32
 abbrev pub word_of : ℕ → ℕ → ℕ
 word_of sel imp = sel * 2 ^ 32 + imp
 
--- what a word tells one who seeks the selector
+-- what a word says to a probe for the selector
 abbrev pub IsLook : ℕ → ℕ → Look → Type 0
 IsLook word sel (Hit imp) = (sel_of word ≡ sel) × (imp_of word ≡ imp_number imp)
 IsLook word sel Empty = word ≡ 0

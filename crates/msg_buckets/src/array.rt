@@ -1,9 +1,9 @@
-//! Arrays of buckets: a probe, and an entry put where it ends.
+//! Arrays of buckets: how one is probed, and where an entry is put.
 //!
-//! A selector that stands at its first place is hit after one load and one compare. A step that
-//! goes on to the next place costs one load and three compares with a branch each (the selector, 0,
-//! the way round), in eleven instructions of x86-64, as LLVM builds it. No bounds test and no
-//! division is left.
+//! A selector in its first place is hit after one load and one compare. A step to the next place
+//! costs one load and three compares with a branch each: the selector, 0, and whether the probe has
+//! gone round. LLVM builds it as eleven instructions of x86-64, with no bounds test and no
+//! division.
 
 ghost use Rattle.std.specs.Prelude.{◌≡◌, ◌≢◌, ℕ, ◌+◌, ◌<◌, length, slice_index};
 ghost use Rattle.msg_names.specs.Number.{selector_number, imp_number};
@@ -21,16 +21,16 @@ pub enum Probe {
     Hit(ImpRef),
     /// The empty bucket at this place, where the selector would go.
     Empty(usize),
-    /// Neither, all round the array.
+    /// Neither: the probe went all round the array.
     Wrapped,
 }
 
-/// What became of an entry.
+/// What was done with an entry.
 #[derive(Clone, Copy, Debug, PartialEq, Eq)]
 pub enum Placed {
     /// The selector was there already, with this implementation or another. Nothing has changed.
     Present,
-    /// It stands at this place.
+    /// The entry was put at this place.
     At(usize),
     /// Every bucket belongs to another selector. Nothing has changed.
     Full,

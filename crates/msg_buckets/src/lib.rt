@@ -1,7 +1,7 @@
-//! The buckets of a method cache, in the manner of objc4: an array of words, each of which is a
-//! selector with its implementation, or 0.
+//! The buckets of a method cache, as in objc4: an array of words, each of which holds a selector
+//! with its implementation, or 0.
 //!
-//! Nothing here takes memory or is shared. A cache that threads read without a lock is built on
+//! Nothing here allocates memory or is shared. A cache that threads read without a lock is built on
 //! these definitions.
 #![tactic(auto)]
 

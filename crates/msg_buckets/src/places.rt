@@ -1,6 +1,6 @@
-//! The order in which a probe comes to the places of an array: from `selector & mask` on, round by
-//! `(place + 1) & mask`. A capacity is a power of two, so `mask`, which is one less, takes the
-//! remainder by the capacity.
+//! The order in which a probe visits the places of an array: it begins at `selector & mask`, and
+//! goes on to `(place + 1) & mask`. A capacity is a power of two and `mask` is one less, so `&
+//! mask` gives the remainder by the capacity.
 
 ghost use Rattle.std.specs.Prelude.{◌≡◌, ℕ, ◌+◌, ◌-◌, ◌<◌, bit_and};
 ghost use Rattle.msg_names.specs.Number.{selector_number};
@@ -20,7 +20,7 @@ pub fn first_place(selector: Selector, capacity: u32) -> usize
     (selector.number() & (capacity - 1)) as usize
 }
 
-/// The place after this one, round to 0 after the last.
+/// The next place, which is 0 after the last.
 #[inline(always)]
 pub fn next_place(place: usize, capacity: u32) -> usize
     requires capacity { IsCapacity capacity }

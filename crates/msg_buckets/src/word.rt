@@ -7,7 +7,7 @@ ghost use Rattle.msg_buckets.specs.Word.{sel_of, imp_of, word_of, IsLook};
 
 use msg_names::{ImpRef, Selector};
 
-/// What a word tells one who seeks a selector.
+/// What a word says to a probe for a selector.
 #[derive(Clone, Copy, Debug, PartialEq, Eq)]
 pub enum Look {
     Hit(ImpRef),
@@ -38,7 +38,7 @@ pub fn unpack(word: u64) -> Option<(Selector, ImpRef)>
     Some((selector, implementation_of(word)))
 }
 
-/// One step of a probe: what a word says, which one load has given.
+/// One step of a probe, on a word that one load has read.
 #[inline(always)]
 pub fn look_at(word: u64, selector: Selector) -> Look
     ensures { IsLook word (selector_number selector) result }

@@ -1,4 +1,4 @@
--- What is held, where something is.
+-- What is held, if something is.
 use Rattle.std.proofs.Common.{◌≡◌, refl}
 use Rattle.std.specs.Prelude.{Option, Some, None, is_some, true}
 

@@ -1,4 +1,4 @@
--- What calls answer.
+-- The results of calls.
 use Rattle.std.specs.Prelude.{◌≡◌, ◌==◌, ◌||◌, if◌then◌else◌, nat_lt, ℕ, Bool, List, Option, Some, None, not, option_map}
 use Rattle.msg_names.specs.declared.value.ClassRef.{ClassRef}
 use Rattle.msg_tables.specs.History.{History, BeginsWith, holder, superclass}
@@ -13,39 +13,39 @@ use Rattle.msg_host.specs.declared.fault.AskFault.{AskFault}
 use Rattle.msg_c.specs.declared.answer.TheConstants.{NONE}
 use Rattle.msg_c.specs.declared.asking.MsgClass.{MsgClass}
 
--- the number of a question's fault, and 0 where it has none
+-- the number of a question's fault, or 0 if it has none
 abbrev pub number_of_fault : Option AskFault → ℕ
 number_of_fault None = 0
 number_of_fault (Some f) = ask_fault_number f
 
--- the answer where there are so many, of which each wants a place of a room: 0, or the number that
+-- the result for a number of elements, each of which needs a place of a room: 0, or the number that
 -- says that the room has too few
 abbrev pub number_for_room : ℕ → ℕ → ℕ
 number_for_room room count = if nat_lt room count then want_of_room else 0
 
 -- what a sender noted of a lookup, as one number: 0 for nothing, and 2^32, which is no
--- implementation's number, where no method was found
+-- implementation's number, if no method was found
 abbrev pub number_of_recalled : Option ℕ → ℕ
 number_of_recalled None = 0
 number_of_recalled (Some imp) = if imp == 0 then 4294967296 else imp
 
--- the words of a config aren't known, or ask for what isn't given
+-- the words of a config aren't known, or ask for more than is given
 abbrev pub are_refused : List ℕ → Bool
 are_refused words = not (are_known words) || is_beyond (config_of words)
 
--- the answer to a question for a class and a selector of an arena's, as far as it is a fault's
+-- the result of a question for a class and a selector of an arena, as far as it is a fault
 abbrev pub fault_in : ArenaView → ℕ → ℕ → ℕ
 fault_in a class sel = number_of_fault (ask_fault (classes a) class sel)
 
--- the question is asked: there are so many classes, and the selector has a number
+-- the question is asked: the class has one of this number of classes, and the selector has a number
 abbrev pub IsAsked : ArenaView → ℕ → ℕ → Type 0
 IsAsked a class sel = ask_fault (classes a) class sel ≡ None
 
--- where it isn't asked, the number of its fault is answered
+-- if it isn't asked, the number of its fault is returned
 abbrev pub TellsFault : ArenaView → ℕ → ℕ → ℕ → Type 0
 TellsFault a class sel n = (f : AskFault) → ask_fault (classes a) class sel ≡ Some f → n ≡ ask_fault_number f
 
--- a question that is asked finds nothing, and so it is answered
+-- a question that is asked finds nothing, and the result says so
 abbrev pub TellsNone : ArenaView → ℕ → ℕ → Option ClassRef → ℕ → Type 0
 TellsNone a class sel found n = IsAsked a class sel → found ≡ None → n ≡ NONE
 
@@ -53,7 +53,7 @@ TellsNone a class sel found n = IsAsked a class sel → found ≡ None → n ≡
 abbrev pub TellsNoSuperclass : RuntimeView → ℕ → Bool → ℕ → Type 0
 TellsNoSuperclass v class meta n = TellsNone v.arena class 1 (superclass v.keeper.history (ref_of class meta)) n
 
--- a question for where a method stands finds none
+-- a question for the class of a method finds none
 abbrev pub TellsNoHolder : RuntimeView → ℕ → Bool → ℕ → ℕ → Type 0
 TellsNoHolder v class meta sel n = TellsNone v.arena class sel (holder v.keeper.history (ref_of class meta) sel) n
 
@@ -75,7 +75,7 @@ runtime_rooms = option_map (λ v. v.rooms)
 abbrev pub runtime_written : Option RuntimeView → Option WrittenView
 runtime_written = option_map (λ v. v.written)
 
--- after how many changes each sender rested
+-- the number of changes after which each sender rested
 abbrev pub runtime_rested : Option RuntimeView → Option (List ℕ)
 runtime_rested = option_map (λ v. v.rested)
 

@@ -1,4 +1,4 @@
--- What handles hold, where they are open, and what calls make of it.
+-- What handles hold if they are open, and what calls change of it.
 use Rattle.std.specs.Prelude.{◌≡◌, ◌≢◌, ◌<◌, ◌≤◌, ◌+◌, ◌%◌, ℕ, Bool, List, Option, Some, IfSome, is_some, length, slice_index, true}
 use Rattle.msg_names.specs.declared.value.ClassRef.{ClassRef}
 use Rattle.msg_tables.specs.declared.change.Change.{Change}
@@ -47,7 +47,7 @@ HasTexts t = is_some t.held.state ≡ true
 abbrev pub OpensIn : HostConfig → RuntimeHandle → Type 0
 OpensIn config r = IfSome r.held.state (λ v. OpensAs config v)
 
--- so it is with the runtime in a handle that is open
+-- the same for the runtime in a handle that is open
 abbrev pub IfOpen : RuntimeHandle → (RuntimeView → Type 0) → Type 0
 IfOpen r is_so = (v : RuntimeView) → r.held.state ≡ Some v → is_so v
 
@@ -71,15 +71,15 @@ LeavesNumbers was is = runtime_given is.held.state ≡ runtime_given was.held.st
 abbrev pub LeavesRests : RuntimeHandle → RuntimeHandle → Type 0
 LeavesRests was is = runtime_rested is.held.state ≡ runtime_rested was.held.state
 
--- so has each of those that are out
+-- the same for each of those that are out
 abbrev pub LeavesRestsOut : RuntimeHandle → RuntimeHandle → Type 0
 LeavesRestsOut was is = (v w : RuntimeView) (n : ℕ) → was.held.state ≡ Some v → is.held.state ≡ Some w → awaits v.keeper.given n ≡ true → slice_index w.rested n ≡ slice_index v.rested n
 
--- as many senders are out as there may be
+-- as many senders are out as the limit
 abbrev pub HasAllOut : RuntimeHandle → Type 0
 HasAllOut r = IfOpen r (λ v. AllAreOut v)
 
--- where both handles are open, what the runtime of one went through with the sender of the other
+-- if both handles are open, what the runtime of one went through with the sender of the other
 abbrev pub GoesWith : RuntimeHandle → RuntimeHandle → SenderHandle → (RuntimeView → RuntimeView → SenderView → Type 0) → Type 0
 GoesWith was is s goes = (v w : RuntimeView) (u : SenderView) → was.held.state ≡ Some v → is.held.state ≡ Some w → s.held.state ≡ Some u → goes v w u
 
@@ -87,7 +87,7 @@ GoesWith was is s goes = (v w : RuntimeView) (u : SenderView) → was.held.state
 abbrev pub GivesOut : RuntimeHandle → RuntimeHandle → SenderHandle → Type 0
 GivesOut was is s = GoesWith was is s (λ v w u. IsNew u.seen v.keeper w.keeper)
 
--- its number isn't out any more
+-- its number is no longer out
 abbrev pub TakesBack : RuntimeHandle → RuntimeHandle → SenderHandle → Type 0
 TakesBack was is s = GoesWith was is s (λ v w u. w ≡ record v { keeper = taken_in u.seen v.keeper })
 
@@ -95,7 +95,7 @@ TakesBack was is s = GoesWith was is s (λ v w u. w ≡ record v { keeper = take
 abbrev pub Meets : RuntimeHandle → RuntimeHandle → SenderHandle → Type 0
 Meets was is s = GoesWith was is s (λ v w u. w ≡ record v { keeper = given_again u.seen v.keeper })
 
--- so it was, and it rested
+-- the sender was shown the whole history, and it rested
 abbrev pub Rests : RuntimeHandle → RuntimeHandle → SenderHandle → Type 0
 Rests was is s = GoesWith was is s (λ v w u. (w ≡ record v { keeper = given_again u.seen v.keeper; rested = w.rested }) × RestsAs u.seen v w)
 
@@ -103,45 +103,45 @@ Rests was is s = GoesWith was is s (λ v w u. (w ≡ record v { keeper = given_a
 abbrev pub RestsAtOpening : RuntimeHandle → RuntimeHandle → SenderHandle → Type 0
 RestsAtOpening was is s = GoesWith was is s (λ v w u. RestsAs u.seen v w)
 
--- this is the least of the numbers of changes after which those that are out have rested, and all
--- where none is out; each has seen as many, so no later find of theirs is older
+-- this is the least of the numbers of changes after which those that are out have rested, or all if
+-- none is out; each has seen as many, so no later find of theirs is older
 abbrev pub IsSeenByAll : RuntimeHandle → ℕ → Type 0
 IsSeenByAll r n = IfOpen r (λ v. IsLeastOut v.keeper.given v.rested (length v.keeper.history.changes) n × HaveAllSeen v.arena.key v.keeper n)
 
--- what was found for a class reference and a selector was cached, where there was room, and counted
+-- what was found for a class reference and a selector was cached, if there was room, and counted
 abbrev pub CachesIn : RuntimeHandle → RuntimeHandle → SenderHandle → ClassRef → ℕ → ℕ → Type 0
 CachesIn was is s c sel imp = GoesWith was is s (λ v w u. CachesNumber c sel imp u.seen v w)
 
--- the answer is that to a question for a class and a selector, as far as it is a fault's
+-- the result is that of a question for a class and a selector, as far as it is a fault
 abbrev pub AnswersAsked : RuntimeHandle → ℕ → ℕ → ℕ → Type 0
 AnswersAsked r class sel n = IfOpen r (λ v. n ≡ fault_in v.arena class sel)
 
--- so it is with the history of that runtime
+-- the same for the history of that runtime
 abbrev pub IfAt : RuntimeHandle → (History → Type 0) → Type 0
 IfAt r is_so = (h : History) → runtime_history r.held.state ≡ Some h → is_so h
 
--- a change took what a handle holds from was to is, with the answer n
+-- a change took what a handle holds from was to is, with the result n
 abbrev pub Changes : RuntimeHandle → RuntimeHandle → Change → ℕ → Type 0
 Changes was is x n = (v w : RuntimeView) → was.held.state ≡ Some v → is.held.state ≡ Some w → AnswersChange v w x n
 
--- one of a selector's methods did, where the selector's number isn't 0
+-- a change of a selector's methods did, if the selector's number isn't 0
 abbrev pub ChangesIf : ℕ → RuntimeHandle → RuntimeHandle → Change → ℕ → Type 0
 ChangesIf sel was is x n = 0 < sel → Changes was is x n
 
--- an exchange of two selectors' methods did, where neither selector's number is 0
+-- an exchange of two selectors' methods did, if neither selector's number is 0
 abbrev pub Exchanges : RuntimeHandle → RuntimeHandle → ℕ → Bool → ℕ → ℕ → Bool → ℕ → ℕ → Type 0
 Exchanges was is class meta sel other other_meta other_sel n =
     0 < sel → 0 < other_sel → Changes was is (exchange (ref_of class meta) sel (ref_of other other_meta) other_sel) n
 
--- a class was to be made, under a superclass or as a root class
+-- a class was to be made, below a superclass or as a root class
 abbrev pub MakesClass : RuntimeHandle → RuntimeHandle → ℕ → Option ℕ → ℕ → Type 0
 MakesClass was is class superclass n = Changes was is (AddClass class superclass) n
 
--- with the answer 0 a category was attached
+-- with the result 0 a category was attached
 abbrev pub AttachesIn : RuntimeHandle → RuntimeHandle → ℕ → List MethodRow → List MethodRow → ℕ → Type 0
 AttachesIn was is class methods class_methods n = n ≡ 0 → Changes was is (attachment class methods class_methods) 0
 
--- another answer says why not
+-- another result says why not
 abbrev pub RefusesAttachmentIn : RuntimeHandle → RuntimeHandle → ℕ → List MethodRow → List MethodRow → ℕ → Type 0
 RefusesAttachmentIn was is class methods class_methods n = (v w : RuntimeView) → was.held.state ≡ Some v → is.held.state ≡ Some w → TellsAttachFault v w class methods class_methods n
 
@@ -153,21 +153,21 @@ MakesRowsIn rows was is = (v w : RuntimeView) → was.held.state ≡ Some v → 
 abbrev pub RefusesRowsIn : RuntimeHandle → List ChangeRow → ℕ → ℕ → Type 0
 RefusesRowsIn r rows place n = IfOpen r (λ v. AreRefusedRows rows v.keeper.history place n)
 
--- where memory was wanting, nothing else speaks against them up to that of this place, and there is
--- too little room for these
+-- if memory was lacking, nothing else forbids them up to that of this place, and there is too
+-- little room for these
 abbrev pub LacksMemoryIn : RuntimeHandle → List ChangeRow → ℕ → ℕ → Type 0
 LacksMemoryIn r rows place n = IfOpen r (λ v. LackMemoryIf rows v place n)
 
--- the runtime in a handle says why it doesn't tell what rows would reach, and marks what those
+-- the runtime in a handle returns why it doesn't find what rows would affect, and marks what those
 -- before would, or nothing
 abbrev pub RefusesReachIn : RuntimeHandle → List ChangeRow → ℕ → ℕ → List Bool → List Bool → Type 0
 RefusesReachIn r rows place n old new = IfOpen r (λ v. RefusesToReach v rows place n old new)
 
--- what the changes of rows may alter in the runtime of a handle is marked, beside what was
+-- what the changes of rows may alter in the runtime of a handle is marked, in addition to what was
 abbrev pub ReachesRowsIn : RuntimeHandle → List ChangeRow → List Bool → List Bool → Type 0
 ReachesRowsIn r rows old new = IfOpen r (λ v. ReachesRows rows v.keeper.history (classes v.arena) old new)
 
--- so it is with the history that the sender in an open handle has seen
+-- the same for the history that the sender in an open handle has seen
 abbrev pub IfSeen : SenderHandle → (History → Type 0) → Type 0
 IfSeen s is_so = (h : History) → sender_front s.held.state ≡ Some h → is_so h
 
@@ -179,7 +179,7 @@ SeesMore was is = SeesOn (sender_front was.held.state) (sender_front is.held.sta
 abbrev pub HasSeenAll : SenderHandle → RuntimeHandle → Type 0
 HasSeenAll s r = sender_front s.held.state ≡ runtime_history r.held.state
 
--- so it is with the sender in an open handle
+-- the same for the sender in an open handle
 abbrev pub IfSender : SenderHandle → (SenderView → Type 0) → Type 0
 IfSender s is_so = (w : SenderView) → s.held.state ≡ Some w → is_so w
 
@@ -203,17 +203,17 @@ LoadsStampIn was is c n = IfSenders was is (λ u w. LoadsStamp c n u.seen w.seen
 abbrev pub HasNotedAt : SenderHandle → RuntimeHandle → ClassRef → ℕ → ℕ → Type 0
 HasNotedAt s r c sel imp = IfAt r (λ h. HaveNoted s.notes h c sel imp)
 
--- so it is with that sender's arena
+-- the same for that sender's arena
 abbrev pub IfOfArena : SenderHandle → (ArenaView → Type 0) → Type 0
 IfOfArena s is_so = (a : ArenaView) → sender_arena s.held.state ≡ Some a → is_so a
 
--- the lookups of rows are found, all at one history: no older than what the sender of an open
--- handle had seen, and it has seen that then
+-- the lookups of rows are found, all at one history, which is no older than what the sender of an
+-- open handle had seen; it has then seen that
 abbrev pub FindsRowsIn : SenderHandle → SenderHandle → List LookupRow → List ℕ → Type 0
 FindsRowsIn was is rows imps = IfSenders was is (λ u w. AreRowsFound u.seen w.seen rows imps)
 
--- its notes had nothing of one of them since a stamp of its class reference that was loaded, or that
--- says more changes than it had seen
+-- its notes had nothing of one of them since a stamp of its class reference that was loaded, or
+-- that says more changes than it had seen
 abbrev pub LacksRowIn : SenderHandle → SenderHandle → List LookupRow → Type 0
 LacksRowIn was is rows = IfSenders was is (λ u w. RowsLackOne u.arena was.notes rows u.seen w.seen)
 
@@ -226,20 +226,20 @@ MissesRowIn was is rows = IfSenders was is (λ u w. RowsMissOne u.arena rows u.s
 abbrev pub NotesRowsIn : SenderHandle → SenderHandle → List LookupRow → List ℕ → Type 0
 NotesRowsIn was is rows imps = IfSenders was is (λ u w. RowsAreNoted u.arena is.notes u.seen w.seen rows imps)
 
--- so it is where they were answered at the history of the runtime in an open handle
+-- the same, if they were answered at the history of the runtime in an open handle
 abbrev pub NotesRowsAt : RuntimeHandle → SenderHandle → SenderHandle → List LookupRow → List ℕ → Type 0
 NotesRowsAt r was is rows imps = IfAt r (λ h. IfSenders was is (λ u w. RowsAreNotedOrAt u.arena h is.notes u.seen w.seen rows imps))
 
--- where none of the lookups is noted, the handle has the notes that it had
+-- if none of the lookups is noted, the handle has the notes that it had
 abbrev pub KeepsOtherNotes : SenderHandle → SenderHandle → List LookupRow → Type 0
 KeepsOtherNotes was is rows = IfOfArena was (λ a. RowsKeepOthers a was.notes is.notes rows)
 
--- as many answers as rows have a place, each row means a lookup of its classes, and no place of a
--- row is told
+-- there are as many places for results as rows, each row means a lookup of its classes, and no
+-- place of a row is written
 abbrev pub TakesLookupsIn : SenderHandle → List LookupRow → ℕ → ℕ → ℕ → Type 0
 TakesLookupsIn s rows places old new = IfOfArena s (λ a. AreTakenLookups (classes a) rows places old new)
 
--- another number has, or a row means none, and its place is told
+-- there is another number of places, or a row means none, and its place is written
 abbrev pub RefusesLookupsIn : SenderHandle → List LookupRow → ℕ → ℕ → ℕ → ℕ → Type 0
 RefusesLookupsIn s rows places old new n = IfOfArena s (λ a. AreRefusedLookups (classes a) rows places old new n)
 
@@ -247,12 +247,12 @@ RefusesLookupsIn s rows places old new n = IfOfArena s (λ a. AreRefusedLookups 
 abbrev pub IsListedIn : SenderHandle → ℕ → Type 0
 IsListedIn s imp = IfOfArena s (λ a. imp ≤ last_imp a.key.origin.counts)
 
--- an answer that is neither 0 nor MISSED is that of a fault of the question
+-- a result that is neither 0 nor MISSED is that of a fault of the question
 abbrev pub TellsFaultIn : SenderHandle → ℕ → ℕ → ℕ → Type 0
 TellsFaultIn s class sel n = IfOfArena s (λ a. n ≢ 0 → n ≢ MISSED → n ≡ fault_in a class sel)
 
--- what is answered as noted, NOTED_NONE for no method, the lookup found at some point of what its
--- sender has seen, after so many changes or more
+-- if a result is noted, NOTED_NONE for no method, the lookup found it at some point of what its
+-- sender has seen, after at least this number of changes
 abbrev pub Recalls : SenderHandle → ℕ → ℕ → ℕ → ℕ → Type 0
 Recalls s since slot sel n = n ≢ NOT_NOTED → IfSeen s (λ h. IsRecalledSince h since slot sel (n % NOTED_NONE))
 
@@ -264,6 +264,6 @@ LooksOnceMore was is = IfSenders was is (λ u w. w.seen.looks ≡ u.seen.looks +
 abbrev pub IsOfRuntime : SenderHandle → RuntimeHandle → Type 0
 IsOfRuntime s r = sender_arena s.held.state ≡ runtime_arena r.held.state
 
--- so it is with the texts in an open handle
+-- the same for the texts in an open handle
 abbrev pub IfInterned : TextsHandle → (TextsView → Type 0) → Type 0
 IfInterned t is_so = (v : TextsView) → t.held.state ≡ Some v → is_so v

@@ -3,7 +3,7 @@ use Rattle.std.specs.Prelude.{◌≡◌, ℕ, Bool, List, Some, ◌++◌, bytes_
 use Rattle.std.specs.List.{list_any}
 use Rattle.msg_names.specs.Numbering.{number_of}
 
--- what contracts see of texts: the bytes of each, in the order of their numbers
+-- the contracts' view of texts: the bytes of each, in the order of their numbers
 abbrev pub TextsView : Type 0
 TextsView = List (List ℕ)
 
@@ -15,6 +15,6 @@ with_text text bytes = take (length bytes) text ++ drop (length text) bytes
 abbrev pub is_interned : List ℕ → TextsView → Bool
 is_interned text v = list_any (bytes_eq text) v
 
--- where the text has a number, that is answered
+-- if the text has a number, that is returned
 abbrev pub AnswersNumber : TextsView → List ℕ → ℕ → ℕ → Type 0
 AnswersNumber v text answer number = (n : ℕ) → number_of v text ≡ Some n → (answer ≡ 0) × (number ≡ n)

@@ -24,7 +24,8 @@ pub struct MsgClass {
     pub meta: bool,
 }
 
-/// How many class numbers are reserved. `objc_getClassList` counts the classes that are made.
+/// The number of class numbers that are reserved. `objc_getClassList` counts the classes that are
+/// made.
 #[unsafe(no_mangle)]
 pub extern "C" fn msg_class_count(
     alloc: Global,
@@ -45,7 +46,7 @@ pub extern "C" fn msg_class_count(
     DONE
 }
 
-/// How many changes were made: a list of them counts as one. Each was accepted.
+/// The number of times that changes were made: a list of changes counts as one. Each was accepted.
 #[unsafe(no_mangle)]
 pub extern "C" fn msg_change_count(
     alloc: Global,
@@ -66,9 +67,9 @@ pub extern "C" fn msg_change_count(
     DONE
 }
 
-/// Where the words lie that all threads share: the address of the first. The stamp of a class
-/// reference lies as many bytes behind it as each note of that says. They lie there as long as the
-/// runtime or a sender of it is open.
+/// The address of the first of the words that all threads share. Each note says how many bytes
+/// after it the stamp of its class reference lies. The words stay in place as long as the runtime
+/// or a sender of it is open.
 #[unsafe(no_mangle)]
 pub extern "C" fn msg_words(
     alloc: Global,
@@ -88,8 +89,8 @@ pub extern "C" fn msg_words(
     DONE
 }
 
-/// `class_getMethodImplementation`: the implementation's number, 0 for forwarding. No cache is
-/// looked at or filled.
+/// `class_getMethodImplementation`: the implementation's number, 0 for forwarding. It reads and
+/// fills no cache.
 #[unsafe(no_mangle)]
 pub extern "C" fn msg_lookup(
     alloc: Global,
@@ -120,7 +121,7 @@ pub extern "C" fn msg_lookup(
     }
 }
 
-// Writes a class reference out, where there is one.
+// Writes a class reference, if there is one.
 fn put(found: Option<ClassRef>, out: &mut MsgClass) -> u32
     ensures done { (c : ClassRef) → found ≡ Some c → (result ≡ 0) × Shows out.new c }
     ensures none { found ≡ None → (result ≡ NONE) × (out.new ≡ out.old) }
@@ -137,7 +138,7 @@ fn put(found: Option<ClassRef>, out: &mut MsgClass) -> u32
     }
 }
 
-/// `class_getSuperclass`: of a metaclass the superclass's metaclass, and of a root metaclass the
+/// `class_getSuperclass`: for a metaclass the superclass's metaclass, and for a root metaclass the
 /// root class itself.
 #[unsafe(no_mangle)]
 pub extern "C" fn msg_superclass(
@@ -166,8 +167,7 @@ pub extern "C" fn msg_superclass(
     }
 }
 
-/// The class of the method that `class_getInstanceMethod` finds: the class reference at which it
-/// stands.
+/// The class of the method that `class_getInstanceMethod` finds: the class reference that has it.
 #[unsafe(no_mangle)]
 pub extern "C" fn msg_holder(
     alloc: Global,

@@ -14,8 +14,8 @@ use msg_host::MethodRow;
 use msg_names::ClassRef;
 use std::alloc::Global;
 
-/// `class_addMethod`. 0, or the number of the change's fault, after which nothing has changed; 67
-/// where the selector is 0.
+/// `class_addMethod`. Returns 0, or the number of the change's fault, after which nothing has
+/// changed; 67 if the selector is 0.
 #[unsafe(no_mangle)]
 pub extern "C" fn msg_add(
     alloc: Global,
@@ -39,7 +39,7 @@ pub extern "C" fn msg_add(
     answer
 }
 
-/// `class_replaceMethod`, alike.
+/// `class_replaceMethod`, with the same results.
 #[unsafe(no_mangle)]
 pub extern "C" fn msg_replace(
     alloc: Global,
@@ -63,7 +63,8 @@ pub extern "C" fn msg_replace(
     answer
 }
 
-/// `method_setImplementation` of the method that `class_getInstanceMethod` finds, alike.
+/// `method_setImplementation` of the method that `class_getInstanceMethod` finds, with the same
+/// results.
 #[unsafe(no_mangle)]
 pub extern "C" fn msg_set_imp(
     alloc: Global,
@@ -87,7 +88,8 @@ pub extern "C" fn msg_set_imp(
     answer
 }
 
-/// `method_exchangeImplementations` of two methods that `class_getInstanceMethod` finds, alike.
+/// `method_exchangeImplementations` of two methods that `class_getInstanceMethod` finds, with the
+/// same results.
 #[unsafe(no_mangle)]
 pub extern "C" fn msg_exchange(
     alloc: Global,
@@ -118,8 +120,9 @@ pub extern "C" fn msg_exchange(
     answer
 }
 
-/// `attachCategories` at run time: methods for the class, and others for its metaclass, alike. Of
-/// one selector's methods the earlier is found. 7 may also say that the list of them wanted memory.
+/// `attachCategories` at run time, with the same results: methods for the class, and others for its
+/// metaclass. Of several methods with one selector the earlier is found. 7 may also mean that the
+/// list of them lacked memory.
 #[unsafe(no_mangle)]
 pub extern "C" fn msg_attach(
     alloc: Global,
@@ -142,8 +145,8 @@ pub extern "C" fn msg_attach(
     answer
 }
 
-/// `objc_allocateClassPair` with `objc_registerClassPair`, alike: makes a class, without methods,
-/// under a superclass that is there.
+/// `objc_allocateClassPair` with `objc_registerClassPair`, with the same results: makes a class,
+/// without methods, below a superclass that is made.
 #[unsafe(no_mangle)]
 pub extern "C" fn msg_make_class(
     alloc: Global,
@@ -164,7 +167,7 @@ pub extern "C" fn msg_make_class(
     answer
 }
 
-/// The same with the superclass `Nil`: makes a root class.
+/// Does the same with the superclass `Nil`: makes a root class.
 #[unsafe(no_mangle)]
 pub extern "C" fn msg_make_root_class(alloc: Global, runtime: &mut RuntimeHandle, class: u32) -> u32
     ensures arena { runtime_arena runtime.new.held.state ≡ runtime_arena runtime.old.held.state }
@@ -180,8 +183,8 @@ pub extern "C" fn msg_make_root_class(alloc: Global, runtime: &mut RuntimeHandle
     answer
 }
 
-/// `class_removeMethod`, alike: the method that the class itself has leaves, and one that it
-/// covered counts again.
+/// `class_removeMethod`, with the same results: removes the method that the class itself has. A
+/// method that it covered counts again.
 #[unsafe(no_mangle)]
 pub extern "C" fn msg_remove(
     alloc: Global,
@@ -204,8 +207,8 @@ pub extern "C" fn msg_remove(
     answer
 }
 
-/// `objc_disposeClassPair`, alike: a class that was made leaves with its metaclass and the methods
-/// of both, where no class is below it.
+/// `objc_disposeClassPair`, with the same results: removes a class that was made and has no class
+/// below it, with its metaclass and the methods of both.
 #[unsafe(no_mangle)]
 pub extern "C" fn msg_dispose_class(alloc: Global, runtime: &mut RuntimeHandle, class: u32) -> u32
     ensures arena { runtime_arena runtime.new.held.state ≡ runtime_arena runtime.old.held.state }

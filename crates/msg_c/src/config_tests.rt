@@ -17,7 +17,7 @@ use std::alloc::Global;
 use std::process::Abort;
 use std::test::Fail;
 
-// What opening by these words answers.
+// What opening with these words returns.
 fn opens(alloc: Global, config: &[u32]) -> u32 {
     let mut runtime = RuntimeHandle::closed(alloc);
     msg_open_words(alloc, &mut runtime, config)
@@ -29,7 +29,7 @@ fn opened<R: Abort>(rt: &R, alloc: Global, config: &[u32]) -> RuntimeHandle {
     runtime
 }
 
-// The words of a config, of which one isn't 0.
+// The words of a config, one of which isn't 0.
 fn alone(place: usize, word: u32) -> [u32; 14]
     requires { place < 14 }
 {
@@ -62,7 +62,7 @@ fn fields_that_are_not_known_have_to_be_0(rt: HostRuntime) -> Result<(), Fail> {
     Ok(())
 }
 
-// The last of so many class numbers is made, and none beyond it.
+// The last of this number of class numbers is made, and none beyond it.
 fn ends<R: Abort>(rt: &R, alloc: Global, runtime: &mut RuntimeHandle, numbers: u32)
     requires { 0 < numbers }
 {
@@ -73,7 +73,7 @@ fn ends<R: Abort>(rt: &R, alloc: Global, runtime: &mut RuntimeHandle, numbers: u
     answers(rt, msg_make_root_class(alloc, runtime, numbers - 1), DONE);
 }
 
-// So many senders are opened, and none more.
+// This number of senders is opened, and no more.
 fn has_senders<R: Abort>(rt: &R, alloc: Global, runtime: &mut RuntimeHandle, senders: u32) {
     for _ in 0..senders {
         let mut another = SenderHandle::closed(alloc);
@@ -105,7 +105,7 @@ fn what_is_asked_for_is_given(rt: HostRuntime) -> Result<(), Fail> {
     Ok(())
 }
 
-// A lookup that finds nothing, which is cached where there is an array with room.
+// A lookup that finds nothing, which is cached if there is an array with room.
 fn fills<R: Abort>(
     rt: &R,
     alloc: Global,
@@ -126,8 +126,8 @@ fn fills<R: Abort>(
     answers(rt, imp, 0);
 }
 
-// One array of four entries, of which three are used, and no other: where it is full nothing more
-// is cached, nor for another class.
+// There is one array of four entries, of which three are used. If it is full, nothing more is
+// cached, not even for another class.
 #[test]
 fn arrays_that_are_asked_for_are_all_there_is(rt: HostRuntime) -> Result<(), Fail> {
     let alloc = rt.alloc();

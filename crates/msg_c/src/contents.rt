@@ -1,4 +1,4 @@
-//! What there is: the methods of a class reference, and classes.
+//! The contents of a runtime: the methods of a class reference, and classes.
 
 ghost use Rattle.std.specs.Prelude.{◌≡◌, ◌≢◌, ◌<◌, None, length, IfErr, IfOk, OnErr};
 ghost use Rattle.msg_host.specs.Asking.{ask_fault_number, want_of_room};
@@ -13,7 +13,7 @@ use crate::runtime_handle::RuntimeHandle;
 use msg_host::{AskFault, MethodRow};
 use std::alloc::Global;
 
-// Tells how many were found, and answers whether there was room for them; or the fault.
+// Writes how many were found, and returns whether there was room for them; or returns the fault.
 fn told(found: Result<usize, AskFault>, room: usize, count: &mut usize) -> u32
     ensures ok { IfOk found (λ n. (count.new ≡ n) × (result ≡ number_for_room room n)) }
     ensures err { IfErr found (λ f. result ≡ ask_fault_number f) }
@@ -28,9 +28,9 @@ fn told(found: Result<usize, AskFault>, room: usize, count: &mut usize) -> u32
     }
 }
 
-/// `class_copyMethodList`: the methods that a class or a metaclass has itself, the newest first: of
-/// those of one selector a lookup finds the first. How many there are is told. If `methods` has
-/// fewer places 76 is answered, and no method is written.
+/// `class_copyMethodList`: the methods that a class or a metaclass has itself, the newest first. Of
+/// several methods with one selector a lookup finds the first. Their number is written. If
+/// `methods` has fewer places, 76 is returned and no method is written.
 #[unsafe(no_mangle)]
 pub extern "C" fn msg_methods(
     alloc: Global,
@@ -58,8 +58,8 @@ pub extern "C" fn msg_methods(
     told(found, methods.len(), count)
 }
 
-/// `objc_getClassList`: the classes that are made, each after its superclass. How many there are is
-/// told. If `classes` has fewer places 76 is answered, and no class is written.
+/// `objc_getClassList`: the classes that are made, each after its superclass. Their number is
+/// written. If `classes` has fewer places, 76 is returned and no class is written.
 #[unsafe(no_mangle)]
 pub extern "C" fn msg_classes(
     alloc: Global,
@@ -81,8 +81,8 @@ pub extern "C" fn msg_classes(
     told(Ok(found), classes.len(), count)
 }
 
-/// The classes below a class: its subclasses, theirs, and so on. How many there are is told. If
-/// `classes` has fewer places 76 is answered, and no class is written.
+/// The classes below a class: its subclasses, theirs, and so on. Their number is written. If
+/// `classes` has fewer places, 76 is returned and no class is written.
 #[unsafe(no_mangle)]
 pub extern "C" fn msg_classes_below(
     alloc: Global,

@@ -1,4 +1,4 @@
-//! Asking what is there.
+//! Questions about the contents of a runtime.
 
 use crate::answer::{CLOSED, DONE, NO_ROOM};
 use crate::changing::{msg_attach, msg_make_class};
@@ -15,7 +15,7 @@ const NO_CLASS: u32 = 66;
 
 const NOTHING: MethodRow = MethodRow { sel: 0, imp: 0 };
 
-// The method of a place.
+// The method at a place.
 fn is_method<R: Abort>(rt: &R, methods: &[MethodRow], place: usize, wanted: (u32, u32)) {
     let found = methods.get(place).map_or((0, 0), |it| (it.sel, it.imp));
     same(rt, found, wanted);

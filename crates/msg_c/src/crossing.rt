@@ -1,10 +1,10 @@
-//! That handles may go to another thread.
+//! Checks that handles may go to another thread.
 
 use crate::runtime_handle::RuntimeHandle;
 use crate::sender_handle::SenderHandle;
 use crate::texts_handle::TextsHandle;
 
-// Called at a type, this asks that its values may go to another thread.
+// A call at a type requires that its values may go to another thread.
 fn may_cross<T: Send>() {}
 
 pub(crate) fn a_runtime_may_cross() {

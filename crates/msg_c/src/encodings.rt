@@ -6,8 +6,8 @@ ghost use Rattle.msg_encodings.specs.declared.types.Member.{Member};
 
 use crate::answer::{DONE, NONE};
 
-/// The size and the alignment of the first type of an encoding, in bytes, and the place behind it,
-/// which is answered.
+/// Writes the size and the alignment of the first type of an encoding, in bytes. Returns the
+/// position after the type.
 #[unsafe(no_mangle)]
 pub extern "C" fn msg_type_first(text: &[u8], size: &mut u64, align: &mut u64) -> usize
     ensures end { result ≡ (type_of text.now).end }
@@ -21,9 +21,9 @@ pub extern "C" fn msg_type_first(text: &[u8], size: &mut u64, align: &mut u64) -
     found.end
 }
 
-/// The next member of a structure, where those before it end before this bit: where its type
-/// begins, the place behind it, the bits from the first to before the last, and its alignment in
-/// bytes.
+/// Reads the next member of a structure. `before` is the bit at which the members before it end. It
+/// writes where the member's type begins, the position after it, its first bit and the bit after
+/// its last, and its alignment in bytes.
 #[unsafe(no_mangle)]
 pub extern "C" fn msg_type_member(
     text: &[u8],

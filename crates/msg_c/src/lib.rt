@@ -1,8 +1,9 @@
-//! The runtime's calls for C, after the functions of the Objective-C Runtime Reference that are
-//! named at each. `include/msg_runtime.h` declares them.
+//! The runtime's calls for C. Each is modelled on the functions of the Objective-C Runtime
+//! Reference that its comment names. `include/msg_runtime.h` declares them.
 //!
-//! A call answers 0, or the number of a fault, after which nothing has changed. A handle that isn't
-//! open is such a fault. Every call but those of a sender alone is made under the host's lock.
+//! A call returns 0, or the number of a fault, after which nothing has changed. A handle that isn't
+//! open is such a fault. Every call is made under the host's lock, except those that take only a
+//! sender.
 #![tactic(auto)]
 
 mod answer;

@@ -13,12 +13,12 @@ use crate::runtime_handle::RuntimeHandle;
 use msg_host::ChangeRow;
 use std::alloc::Global;
 
-/// Makes changes as one: each lookup, by whatever sender, answers from before all of them or from
-/// after all, and the count of changes is one more. 0, or the number of the fault of the first that
-/// would be refused where those before it were made, and then its place is written, from 0, and
-/// nothing has changed; so too where a row means no change (67, 75), which is found before any is
-/// made, and where memory is wanting (7). Of no rows nothing is made, and the count stays. The room
-/// for what the changes write is taken first.
+/// Makes changes as one: each lookup, by any sender, is from before all of them or from after all.
+/// The count of changes is one more. Returns 0, or the number of the fault of the first change that
+/// would be refused after those before it were made. Its place is then written, from 0, and nothing
+/// has changed. The same holds if a row means no change (67, 75), which is found before any change
+/// is made, and if memory is lacking (7). With no rows nothing is made, and the count stays the
+/// same. The room for what the changes write is allocated first.
 #[unsafe(no_mangle)]
 pub extern "C" fn msg_change_all(
     alloc: Global,
@@ -45,10 +45,10 @@ pub extern "C" fn msg_change_all(
     answer
 }
 
-/// As `msg_change_all`, and writes the changes that take these back directly after them, made as
-/// one too; their count is written. Where `undo` has fewer places, 76 is answered and nothing done,
-/// and the count says how many are wanted: one for each method that is added, rewritten or removed,
-/// and for each class that is made or disposed of.
+/// Does the same as `msg_change_all`, and writes the changes that take these back directly after
+/// them, made as one too. Their number is written. If `undo` has fewer places, 76 is returned and
+/// nothing is done, and the number is the one that is needed. There is one change for each method
+/// that is added, rewritten or removed, and for each class that is made or disposed of.
 #[unsafe(no_mangle)]
 pub extern "C" fn msg_change_all_with_undo(
     alloc: Global,
@@ -84,12 +84,13 @@ pub extern "C" fn msg_change_all_with_undo(
     answer
 }
 
-/// Marks the class references whose lookups the changes may alter if they are made as one, beside
-/// those that are marked, and makes none: outside what is marked no lookup would be altered. A
-/// class has its place at twice its number and its metaclass the next; there are so many places, or
-/// else 76 is answered and nothing marked. 0, or the number of the fault for which `msg_change_all`
-/// would refuse them, with its place; what those before it may alter is then marked, but after 67
-/// and 75 nothing, and where memory is wanting (7) the marks say nothing.
+/// Marks the class references whose lookups the changes may alter if they are made as one, in
+/// addition to those that are marked. It makes no change, and no lookup outside what is marked
+/// would be altered. A class has its place at twice its number, and its metaclass has the next. If
+/// there aren't that many places, 76 is returned and nothing is marked. Returns 0, or the number of
+/// the fault for which `msg_change_all` would refuse the changes, with its place. What the changes
+/// before it may alter is then marked. After 67 and 75 nothing is marked, and if memory is lacking
+/// (7) the marks say nothing.
 #[unsafe(no_mangle)]
 pub extern "C" fn msg_reach(
     alloc: Global,

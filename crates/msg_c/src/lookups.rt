@@ -13,12 +13,12 @@ use crate::sender_handle::SenderHandle;
 use msg_host::LookupRow;
 use std::alloc::Global;
 
-/// The numbers of the implementations that the lookups find, 0 for forwarding, all at one point of
-/// the history: not before the one that the sender had seen, and the sender has then seen it. No
-/// lock is wanted. 71 where the sender's notes and a cache lack one of them, or where a change that
-/// affects the class reference of one falls among them; what stands in `imps` means nothing then.
-/// 66, 67 and 75 where a lookup isn't asked, with its place, from 0, and 76 where `imps` hasn't as
-/// many places as there are lookups.
+/// Writes the numbers of the implementations that the lookups find, 0 for forwarding, all at one
+/// point of the history. That point is not before the one that the sender had seen, and the sender
+/// has then seen it. The call needs no lock. It returns 71 if the sender's notes and a cache lack
+/// one of the lookups, or if a change that affects the class reference of one falls among them;
+/// `imps` then has no meaning. It returns 66, 67 or 75 if a lookup isn't asked, with its place,
+/// from 0, and 76 if `imps` doesn't have as many places as there are lookups.
 #[unsafe(no_mangle)]
 pub extern "C" fn msg_probe_all(
     alloc: Global,
@@ -57,8 +57,8 @@ pub extern "C" fn msg_probe_all(
     }
 }
 
-/// The same under the lock, at all changes that were made: what the sender's notes lack is looked
-/// up and cached. The sender has then seen them.
+/// Does the same under the lock, at all changes that were made. What the sender's notes lack is
+/// looked up and cached. The sender has then seen all these changes.
 #[unsafe(no_mangle)]
 pub extern "C" fn msg_fill_all(
     alloc: Global,

@@ -1,5 +1,5 @@
-//! What wants memory is done once there is some. `rt try --test --fail-alloc N` refuses the Nth
-//! allocation.
+//! A call that lacks memory succeeds after there is some. `rt try --test --fail-alloc N` refuses
+//! the Nth allocation.
 
 use crate::answer::{CLOSED, DONE, NO_MEMORY};
 use crate::asking::{msg_change_count, msg_lookup};
@@ -15,7 +15,7 @@ use std::test::Fail;
 
 const METHODS: &[MethodRow] = &[MethodRow { sel: 1, imp: 7 }];
 
-// The number of want of memory among the faults of changes.
+// The number of the lack of memory among the faults of changes.
 const CHANGE_MEMORY: u32 = 7;
 
 fn opens<R: Abort>(rt: &R, alloc: Global, runtime: &mut RuntimeHandle) {
@@ -74,7 +74,7 @@ fn replaces(imp: u32) -> ChangeRow {
     }
 }
 
-// A list is made in the room of the one before, which is as long: it wants no memory.
+// A list is made in the room of the one before, which is as long, so it needs no memory.
 fn lists<R: Abort>(rt: &R, alloc: Global, runtime: &mut RuntimeHandle) {
     let mut place = 0;
     let first = [replaces(8), replaces(9)];

@@ -26,7 +26,7 @@ fn opened(alloc: Global, config: HostConfig) -> Result<RuntimeHandle, OpenFault>
     }
 }
 
-// As of words.
+// Opens a handle with these words.
 fn opened_of(alloc: Global, words: &[u32]) -> Result<RuntimeHandle, OpenFault>
     ensures open { IfOk result HasRuntime }
     ensures ok { IfOk result (OpensIn (config_of words.now)) }
@@ -41,10 +41,10 @@ fn opened_of(alloc: Global, words: &[u32]) -> Result<RuntimeHandle, OpenFault>
 }
 
 /// Opens a runtime without classes, with no change made. The words are the fields of `msg_config`
-/// of C, one after another; those that lack are the default.
+/// of C, one after another. Fields that are missing have the default.
 ///
-/// 73 says that a field is beyond its most, or that there are more fields than are known and one of
-/// those isn't 0. 69, want of memory, may come wherever a growth is refused.
+/// It returns 73 if a field is above its most, or if there are unknown fields and one of those
+/// isn't 0. It returns 69, for a lack of memory, if an allocation is refused.
 #[unsafe(no_mangle)]
 pub extern "C" fn msg_open_words(alloc: Global, runtime: &mut RuntimeHandle, config: &[u32]) -> u32
     ensures already { HasRuntime runtime.old → result ≡ ALREADY_OPEN }
@@ -68,7 +68,7 @@ pub extern "C" fn msg_open_words(alloc: Global, runtime: &mut RuntimeHandle, con
     }
 }
 
-/// Gives back what the runtime holds. Senders of it that are still open keep what they share.
+/// Frees what the runtime holds. Senders of it that are still open keep what they share.
 #[unsafe(no_mangle)]
 pub extern "C" fn msg_close(alloc: Global, runtime: &mut RuntimeHandle) -> u32
     ensures closed { runtime.new.held.state ≡ None }

@@ -1,4 +1,4 @@
-//! A `Box` with its fields in sight of the handles.
+//! A `Box` whose fields the handles can see.
 
 ghost use Rattle.std.specs.Prelude.{◌≡◌};
 ghost use Rattle.std.specs.Box.Ownership.{box_owns};

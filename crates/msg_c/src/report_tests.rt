@@ -15,20 +15,21 @@ use std::alloc::Global;
 use std::process::Abort;
 use std::test::Fail;
 
-// The counts that a report of this many words has; the words are another's before.
+// The counts in a report with this number of words, which had other values before.
 fn told<R: Abort, const N: usize>(rt: &R, alloc: Global, runtime: &mut RuntimeHandle) -> [u64; N] {
     let mut words = [99; N];
     answers(rt, msg_report_words(alloc, runtime, &mut words), DONE);
     words
 }
 
-// So many entries were stored, each in an array of its own, and so many arrays taken away.
+// This number of entries was stored, each in an array of its own, and this number of arrays was
+// taken away.
 fn reports<R: Abort>(rt: &R, alloc: Global, runtime: &mut RuntimeHandle, stored: u64, taken: u64) {
     let words: [u64; 5] = told(rt, alloc, runtime);
     same(rt, words, [stored, stored, taken, taken, 0]);
 }
 
-// How many entries were stored, and how many arrays were installed.
+// The number of entries that were stored, and the number of arrays that were installed.
 pub(crate) fn stored<R: Abort>(rt: &R, alloc: Global, runtime: &mut RuntimeHandle) -> (u64, u64) {
     let words: [u64; 2] = told(rt, alloc, runtime);
     (words[0], words[1])
@@ -77,8 +78,8 @@ fn a_closed_runtime_reports_nothing(rt: HostRuntime) -> Result<(), Fail> {
     Ok(())
 }
 
-// A sender too many, and an entry for which there is no array of four, once with a look at all
-// senders; the rest stays 0, and what is beyond.
+// One sender too many is asked for, and there is no array of four for an entry, once with a look at
+// all senders. All other counts stay 0, also beyond the last.
 #[test]
 fn a_report_counts_what_was_wanted(rt: HostRuntime) -> Result<(), Fail> {
     let alloc = rt.alloc();

@@ -12,7 +12,7 @@ use crate::runtime_handle::RuntimeHandle;
 use msg_cache::Report;
 use std::alloc::Global;
 
-// How many counts a report has.
+// The number of counts in a report.
 const COUNTS: usize = 17;
 
 // The counts of a report, in the order of `struct msg_report_row` of C.
@@ -41,7 +41,7 @@ fn counts(report: Report) -> [u64; COUNTS]
     ]
 }
 
-// The count at a place, and 0 beyond the last.
+// The count at a place, or 0 beyond the last.
 fn count_at(counts: &[u64; COUNTS], place: usize) -> u64
     ensures { result ≡ word_at counts.now place }
 {
@@ -57,9 +57,9 @@ fn write(counts: &[u64; COUNTS], words: &mut [u64])
     }
 }
 
-/// What was done to caches since the runtime was opened: the fields of `struct msg_report_row` of
-/// C, one after another, as many as there is room for. What is beyond the fields that are known is
-/// 0.
+/// Writes what was done to caches since the runtime was opened: the fields of `struct
+/// msg_report_row` of C, one after another, as many as there is room for. Words beyond the known
+/// fields are 0.
 #[unsafe(no_mangle)]
 pub extern "C" fn msg_report_words(
     alloc: Global,

@@ -1,5 +1,5 @@
-//! When old code can go: a sender that doesn't rest holds the count back, and one that is closed
-//! doesn't.
+//! When old code may be unloaded: a sender that doesn't rest holds the count back, and one that is
+//! closed doesn't.
 
 ghost use Rattle.std.specs.Prelude.{◌≡◌};
 
@@ -15,7 +15,7 @@ use std::alloc::Global;
 use std::process::Abort;
 use std::test::Fail;
 
-// So many changes have been seen by all.
+// All senders have seen this number of changes.
 fn seen<R: Abort>(rt: &R, alloc: Global, runtime: &mut RuntimeHandle, count: u64)
     ensures kept { runtime.new.held.state ≡ runtime.old.held.state }
 {

@@ -1,4 +1,4 @@
-//! When old code can go.
+//! When old code may be unloaded.
 
 ghost use Rattle.std.specs.Prelude.{◌≡◌, ◌≢◌, None};
 ghost use Rattle.msg_c.specs.Answers.{AreOfOneArena, sender_arena};
@@ -11,9 +11,9 @@ use crate::sender_handle::SenderHandle;
 use msg_reader::laws::notes_are_of_longer_histories;
 use std::alloc::Global;
 
-/// As `msg_meet`, and it is noted after how many changes the sender rested. The host says by it
-/// that nothing which the sender found before is in use: its thread runs no such function, and
-/// keeps none to call.
+/// Does the same as `msg_meet`, and notes after how many changes the sender rested. By the call the
+/// host says that nothing which the sender found before is in use: its thread runs no such
+/// function, and keeps none to call.
 #[unsafe(no_mangle)]
 pub extern "C" fn msg_rest(
     alloc: Global,
@@ -48,9 +48,10 @@ pub extern "C" fn msg_rest(
     DONE
 }
 
-/// How many changes each open sender had seen when it rested last, or was opened: the least of
-/// these, and all if none is open. Each has seen as many, so no later find of theirs is older. It
-/// goes over all sender numbers.
+/// For each open sender, take the number of changes that it had seen when it last rested or was
+/// opened. Gives the least of these numbers, or the number of all changes if no sender is open.
+/// Each sender has seen that many, so it finds nothing older from then on. It goes over all sender
+/// numbers.
 #[unsafe(no_mangle)]
 pub extern "C" fn msg_seen_by_all(
     alloc: Global,

@@ -1,4 +1,4 @@
-//! What C holds of a runtime.
+//! The handle of a runtime in C.
 
 ghost use Rattle.std.specs.Prelude.{◌≡◌, Option, Some, None, option_map, is_some, true};
 ghost use Rattle.msg_runtime.specs.View.{RuntimeView};
@@ -23,7 +23,7 @@ impl Model for HeldRuntime {
     ghost also_owns = { λ h. held_owns h.alloc h.at h.state };
 }
 
-// What is held may go to another thread, and nothing of it stays behind.
+// What is held may go to another thread, and no part of it stays behind.
 unsafe impl Send for HeldRuntime {}
 
 impl HeldRuntime {
@@ -108,7 +108,7 @@ impl RuntimeHandle {
         self.is_open
     }
 
-    // What an open handle holds. The handle is then closed.
+    // Takes what an open handle holds. The handle is then closed.
     #[inline(always)]
     pub(crate) fn take(&mut self, alloc: Global) -> Option<Box<HostedRuntime>>
         ensures closed { self.new.held.state ≡ None }

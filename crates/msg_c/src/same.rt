@@ -1,10 +1,10 @@
-//! What tests compare by. In functions of their own comparisons are proved once, and not at each
-//! place of a test.
+//! Comparisons for tests. As functions of their own they are proved once, and not at each place of
+//! a test.
 
 use std::fmt::Debug;
 use std::process::Abort;
 
-// The call answers this number.
+// The call returns this number.
 pub(crate) fn answers<R: Abort>(rt: &R, found: u32, wanted: u32) {
     assert_eq!(rt; found, wanted);
 }

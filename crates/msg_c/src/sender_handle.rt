@@ -1,4 +1,4 @@
-//! What C holds of a sender.
+//! The handle of a sender in C.
 
 ghost use Rattle.std.specs.Prelude.{◌≡◌, Option, Some, None, option_map, is_some, true};
 ghost use Rattle.msg_host.specs.View.{SenderView};
@@ -27,7 +27,7 @@ impl Model for HeldSender {
     ghost also_owns = { λ h. held_owns h.alloc h.at h.state };
 }
 
-// What is held may go to another thread, and nothing of it stays behind.
+// What is held may go to another thread, and no part of it stays behind.
 unsafe impl Send for HeldSender {}
 
 impl HeldSender {
@@ -76,7 +76,7 @@ impl HeldSender {
         HeldSender::of_parts(Parts::of(held))
     }
 
-    // What is held. Nothing is, then.
+    // Takes what is held. Nothing is held then.
     #[inline(always)]
     pub(crate) fn take(&mut self, alloc: Global) -> Box<HostedSender>
         requires { is_some self.old.state ≡ true }
@@ -87,7 +87,7 @@ impl HeldSender {
         held.into_box()
     }
 
-    // Holds this.
+    // Holds this value.
     #[inline(always)]
     pub(crate) fn put(&mut self, held: Box<HostedSender>)
         ensures { self.new.state ≡ Some held.value }
@@ -98,7 +98,7 @@ impl HeldSender {
 
 /// `msg_sender` of C. Zero bytes are a closed one.
 ///
-/// A sender's notes lie in its handle, so that what it has noted is found without taking the sender
+/// A sender's notes lie in its handle, so that what was noted is found without taking the sender
 /// out.
 #[repr(C)]
 #[derive(Drop)]
@@ -139,7 +139,7 @@ impl SenderHandle {
         self.is_open = true;
     }
 
-    // What an open handle holds. The handle is then closed.
+    // Takes what an open handle holds. The handle is then closed.
     pub(crate) fn close(&mut self, alloc: Global) -> Option<Box<HostedSender>>
         ensures closed { self.new.held.state ≡ None }
         ensures blank { AreBlank self.new.notes }

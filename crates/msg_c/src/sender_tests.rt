@@ -266,7 +266,7 @@ const CHILD_SLOT: usize = 2;
 
 const META_SLOT: usize = 3;
 
-// A selector of which no class has a method.
+// A selector for which no class has a method.
 const NOWHERE: u32 = 77;
 
 #[test]
@@ -355,7 +355,7 @@ fn what_is_noted_is_recalled_since_its_count(rt: HostRuntime) -> Result<(), Fail
     Ok(())
 }
 
-// What a stamp says of a class reference that is closed.
+// The stamp of a class reference that is closed.
 const ALL_CHANGES: u64 = u64::MAX;
 
 #[test]

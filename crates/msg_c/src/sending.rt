@@ -25,12 +25,12 @@ use msg_reader::laws::notes_are_of_longer_histories;
 use std::alloc::Global;
 use std::mem;
 
-// As the header spells it: a pointer, whether it is open, and 4,096 notes of 32 bytes.
+// The layout as in the header: a pointer, whether it is open, and 4,096 notes of 32 bytes.
 const SENDER_BYTES: usize = 131_088;
 
 const _: () = prove!(mem::size_of::<SenderHandle>() == SENDER_BYTES);
 
-/// How many bytes a sender's handle has, for hosts that don't compile the header.
+/// The size of a sender's handle in bytes, for hosts that don't compile the header.
 #[unsafe(no_mangle)]
 pub extern "C" fn msg_sender_size() -> usize
     ensures { result ≡ 131088 }
@@ -38,8 +38,8 @@ pub extern "C" fn msg_sender_size() -> usize
     SENDER_BYTES
 }
 
-/// A sender of the runtime, which has seen all changes that were made. As many may be out at a time
-/// as the runtime was opened for.
+/// Opens a sender of the runtime, which has seen all changes that were made. As many senders may be
+/// out at a time as the runtime was opened for.
 #[unsafe(no_mangle)]
 pub extern "C" fn msg_sender_open(
     alloc: Global,
@@ -86,7 +86,7 @@ pub extern "C" fn msg_sender_open(
 }
 
 /// Closes the sender, whose notes are then blank. Its number is given back, unless the runtime was
-/// closed before it.
+/// closed before.
 #[unsafe(no_mangle)]
 pub extern "C" fn msg_sender_close(
     alloc: Global,
@@ -115,8 +115,8 @@ pub extern "C" fn msg_sender_close(
 }
 
 /// `cache_getImp`: the implementation's number that the sender noted, or that the class reference's
-/// cache has for the selector; or 71 where neither has it. No lock is wanted. A hit is the lookup
-/// at a point of the history not before the one that the sender had seen.
+/// cache has for the selector; or 71 if neither has it. The call needs no lock. A hit is the
+/// lookup's result at a point of the history not before the one that the sender had seen.
 #[unsafe(no_mangle)]
 pub extern "C" fn msg_probe(
     alloc: Global,
@@ -157,13 +157,13 @@ pub extern "C" fn msg_probe(
     }
 }
 
-/// The number of the implementation that the sender noted after so many changes or more for a slot
-/// (twice a class's number, and 1 more for its metaclass) and a selector, where it has that still;
-/// `NOTED_NONE` where it noted that no method is found, and 0 where it noted nothing. Since the
-/// stamp of the class reference it is what a lookup finds still.
+/// The number of the implementation that the sender noted for a slot and a selector after at least
+/// this number of changes, if the note is still there. A slot is twice a class's number, and 1 more
+/// for its metaclass. The result is `NOTED_NONE` if the sender noted that no method is found, and 0
+/// if it noted nothing. Given the stamp of the class reference, a lookup still finds the result.
 ///
-/// It takes no lock, loads no word that threads share, and writes nothing: a few loads from the
-/// handle.
+/// It takes no lock, loads no word that threads share, and writes nothing. It makes a few loads
+/// from the handle.
 #[unsafe(no_mangle)]
 pub extern "C" fn msg_recall(sender: &SenderHandle, slot: usize, sel: u32, since: u64) -> usize
     ensures found { Recalls sender.now since slot sel result }
@@ -177,9 +177,9 @@ pub extern "C" fn msg_recall(sender: &SenderHandle, slot: usize, sel: u32, since
     }
 }
 
-/// The stamp of a class or of its metaclass: no change after so many has affected it, so what was
-/// noted of it after so many or more is what a lookup finds. The sender has then seen all changes.
-/// No lock is wanted: one shared word is loaded.
+/// The stamp of a class or of its metaclass: no change after that many has affected it. So a lookup
+/// finds what was noted of it after at least that many changes. The sender has then seen all
+/// changes. The call needs no lock, and loads one shared word.
 #[unsafe(no_mangle)]
 pub extern "C" fn msg_stamp(
     alloc: Global,
@@ -265,7 +265,8 @@ pub extern "C" fn msg_fill(
     }
 }
 
-/// The sender has then seen all changes that were made: what it finds from then on is not older.
+/// Brings a sender up to date: it has then seen all changes that were made, and finds nothing older
+/// from then on.
 #[unsafe(no_mangle)]
 pub extern "C" fn msg_meet(
     alloc: Global,
@@ -299,8 +300,8 @@ pub extern "C" fn msg_meet(
     DONE
 }
 
-/// How many changes there are, which the sender has then seen. No lock is wanted: one shared word
-/// is loaded.
+/// The number of changes, which the sender has then seen. The call needs no lock, and loads one
+/// shared word.
 #[unsafe(no_mangle)]
 pub extern "C" fn msg_refresh(alloc: Global, sender: &mut SenderHandle, count: &mut u64) -> u32
     ensures arena { sender_arena sender.new.held.state ≡ sender_arena sender.old.held.state }

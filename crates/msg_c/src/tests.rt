@@ -38,7 +38,7 @@ const ROOT_CLASS_METHODS: &[MethodRow] = &[MethodRow { sel: NEW, imp: 4 }];
 
 const CHILD_METHODS: &[MethodRow] = &[MethodRow { sel: NAME, imp: 3 }];
 
-// So many changes make these classes.
+// The number of changes that make these classes.
 pub(crate) const MADE_BY: u64 = 4;
 
 pub(crate) const ROOT: u32 = 0;
@@ -49,7 +49,7 @@ pub(crate) const MADE: u32 = 2;
 
 const OTHER: u32 = 3;
 
-// No class number, where four are reserved.
+// A number that no class has, if four are reserved.
 pub(crate) const BEYOND: u32 = 4;
 
 pub(crate) const VALUE: u32 = 2;
@@ -277,7 +277,7 @@ fn methods_are_changed(rt: HostRuntime) -> Result<(), Fail> {
     Ok(())
 }
 
-// Each number from 1 is a selector and an implementation, and each fits each.
+// Each number from 1 is a selector and an implementation, and all fit one another.
 #[test]
 fn any_number_is_an_implementation(rt: HostRuntime) -> Result<(), Fail> {
     let alloc = rt.alloc();

@@ -32,7 +32,7 @@ pub extern "C" fn msg_texts_open(alloc: Global, texts: &mut TextsHandle) -> u32
     }
 }
 
-/// Gives back what the texts take.
+/// Frees what the texts take.
 #[unsafe(no_mangle)]
 pub extern "C" fn msg_texts_close(alloc: Global, texts: &mut TextsHandle) -> u32
     ensures closed { texts.new.held.state ≡ None }
@@ -48,8 +48,8 @@ pub extern "C" fn msg_texts_close(alloc: Global, texts: &mut TextsHandle) -> u32
     }
 }
 
-/// The number of a text, as of `sel_registerName`. One that is new gets the next, from 1, and only
-/// then is memory wanted (69), or are there as many as there may be (6).
+/// Writes the number of a text, like `sel_registerName`. A new text gets the next number, from 1.
+/// Only a new text can lack memory (69), or come when as many texts have numbers as the limit (6).
 #[unsafe(no_mangle)]
 pub extern "C" fn msg_texts_intern(
     alloc: Global,
@@ -80,7 +80,7 @@ pub extern "C" fn msg_texts_intern(
     }
 }
 
-/// The number of a text, where it has one. It makes none.
+/// Writes the number of a text, if it has one. It gives no new number.
 #[unsafe(no_mangle)]
 pub extern "C" fn msg_texts_find(
     alloc: Global,
@@ -116,7 +116,7 @@ fn write(text: &[u8], into: &mut [u8])
     into[..count].copy_from_slice(&text[..count]);
 }
 
-/// `sel_getName`: as much of the text of a number as there is room for, and how long it is.
+/// `sel_getName`: writes as much of the text with a number as there is room for, and its length.
 #[unsafe(no_mangle)]
 pub extern "C" fn msg_texts_text(
     alloc: Global,
@@ -147,8 +147,8 @@ pub extern "C" fn msg_texts_text(
     answer
 }
 
-/// How many colons the text of a number has: as many arguments as a selector takes whose name it
-/// is.
+/// Writes the number of colons in the text with a number. A selector with that name takes as many
+/// arguments.
 #[unsafe(no_mangle)]
 pub extern "C" fn msg_texts_colons(
     alloc: Global,

@@ -1,4 +1,4 @@
-//! What C holds of texts.
+//! The handle of texts in C.
 
 ghost use Rattle.std.specs.Prelude.{◌≡◌, Option, Some, None, option_map, is_some, true};
 ghost use Rattle.msg_c.specs.Interned.{TextsView};
@@ -23,7 +23,7 @@ impl Model for HeldTexts {
     ghost also_owns = { λ h. held_owns h.alloc h.at h.state };
 }
 
-// What is held may go to another thread, and nothing of it stays behind.
+// What is held may go to another thread, and no part of it stays behind.
 unsafe impl Send for HeldTexts {}
 
 impl HeldTexts {
@@ -108,7 +108,7 @@ impl TextsHandle {
         self.is_open
     }
 
-    // What an open handle holds. The handle is then closed.
+    // Takes what an open handle holds. The handle is then closed.
     #[inline(always)]
     pub(crate) fn take(&mut self, alloc: Global) -> Option<Box<Texts>>
         ensures closed { self.new.held.state ≡ None }

@@ -20,7 +20,8 @@ fn opened<R: Abort>(rt: &R, alloc: Global) -> TextsHandle {
     texts
 }
 
-// Its number, also where memory is wanting at first: then nothing has changed.
+// Interns a text and returns its number, even if memory is lacking at first. Nothing has changed
+// then.
 fn interned<R: Abort>(rt: &R, alloc: Global, texts: &mut TextsHandle, text: &[u8]) -> u32 {
     let mut number = 99;
     if msg_texts_intern(alloc, texts, text, &mut number) == NO_MEMORY {

@@ -1,4 +1,4 @@
-//! What is made as one, and taken away again.
+//! Lists of changes that are made as one, and taken back.
 
 use crate::answer::DONE;
 use crate::changing::{msg_attach, msg_dispose_class, msg_make_class, msg_remove};

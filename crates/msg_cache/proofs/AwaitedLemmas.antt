@@ -133,7 +133,7 @@ module _ (senders : ℕ) (outs : List Bool) (before after : List ℕ) (end passe
           let here : slice_index after n + passed ≡ slice_index before n = moved n l ∙ ap (λ b. if b then end else slice_index before n) e in
           all (nat_lt n senders && nat_le (slice_index before n) place) ∙ ap (λ m. nat_lt n senders && nat_le m place) (sym here)
 
-  -- nobody, where all have passed it
+  -- nobody, if all have passed it
   pub nobody_left : ((n : ℕ) → n < senders → place < slice_index after n + passed) → list_any (λ b. b) (minus senders outs (awaited_at senders before place)) ≡ false
   nobody_left all = none_left (minus senders outs (awaited_at senders before place)) (λ n. left_is n ∙ ⊎_elim
       (λ (l : n < senders). ap (λ b. nat_lt n senders && b) (lt-leb (slice_index after n + passed) place (all n l)) ∙ none (nat_lt n senders))

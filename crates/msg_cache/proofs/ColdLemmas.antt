@@ -94,7 +94,7 @@ all_closed-live z [] k = refl
 all_closed-live z (c ∷ cs) k =
     by_stamp (λ j. live_in z j.words ≡ live_in z (all_closed z cs k).words) z c (all_closed z cs k) refl (live_stamp z (all_closed z cs k).words c CLOSED) ∙ all_closed-live z cs k
 
--- the class and its metaclass are closed, beside those of the classes before
+-- the class and its metaclass are closed, in addition to those of the classes before
 pub closed_below : (z : Layout) (k : KeeperView) (n : ℕ) → ((c : ClassRef) → c.class < n → Closed z k c) → Closed z k (record { class = n; meta = false }) → Closed z k (record { class = n; meta = true })
     → (c : ClassRef) → c.class < n + 1 → Closed z k c
 closed_below z k n before own meta c lt = ⊎_elim

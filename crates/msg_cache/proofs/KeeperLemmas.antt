@@ -263,7 +263,7 @@ module _ (look : History → ClassRef → ℕ → ℕ) (z : Layout) (origin : Or
       (number_or b a))
       (inl (refl, refl))
 
-  -- a probe word is loaded: where it is 0, its sender is out, and awaited no more
+  -- a probe word is loaded: where it is 0, its sender is out, and no longer awaited
   pub look_step : (n : ℕ) → n < z.senders
       → GoesBy look z origin r (Look n) (slice_set words (probe_at z n) (slice_index words (probe_at z n))) (slice_set views id (Keeper (looked n (slice_index words (probe_at z n) == 0) r.keeper)))
   look_step n lt = by_place (r.whereabouts n) refl
@@ -303,7 +303,7 @@ module _ (look : History → ClassRef → ℕ → ℕ) (z : Layout) (origin : Or
       by_place In e = inside_it In e refl (λ h. cc)
       by_place (Holding c a) e = inside_it (Holding c a) e refl (λ h. cc)
 
-  -- nobody has a sender number: it is out, and awaited no more
+  -- nobody has a sender number: it is out, and no longer awaited
   pub out_step : (n : ℕ) → n < z.senders → awaits r.keeper.given n ≡ false → GoesBy look z origin r (Look n) words (slice_set views id (Keeper (looked n true r.keeper)))
   out_step n lt nobody =
       let k = r.keeper in

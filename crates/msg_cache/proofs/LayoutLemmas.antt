@@ -1,4 +1,4 @@
--- Where the words stand: no two things at one place.
+-- Where the words are: no two things at one place.
 use Rattle.std.proofs.Common.{◌≡◌, ◌≢◌, ℕ, zero, suc, ◌+◌, ◌*◌, ◌<◌, ◌≤◌, List, [], ◌∷◌, length, take, Bool, true, true≢false, refl, sym, ap, arith}
 use Rattle.std.specs.Prelude.{slice_index}
 use Rattle.msg_names.specs.declared.value.ClassRef.{ClassRef}

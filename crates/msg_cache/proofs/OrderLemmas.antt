@@ -35,10 +35,10 @@ use Rattle.msg_cache.specs.Plays.{stored, retire, flushed, installed, committed,
 use Rattle.msg_cache.proofs.LayoutLemmas.{one_place, stamp_no_bucket}
 use Rattle.msg_cache.proofs.OpeningLemmas.{first_tidy}
 use Rattle.msg_cache.proofs.ShownLemmas.{live_is}
-use Rattle.msg_cache.specs.Keeping.{IsGroup, standing_of, array_words, header, lowest_free, looks, look_count, CollectsBy, Collects, or_least, remember, way_in, way_by_header, way_of, filled, grown, FillsBy, Fills, InOrder}
+use Rattle.msg_cache.specs.Keeping.{IsGroup, standing_of, array_words, header, lowest_free, looks, look_count, CollectsBy, Collects, or_least, remember, placement_in, placement_by_header, placement_of, filled, grown, FillsBy, Fills, InOrder}
 use Rattle.msg_cache.specs.declared.answer.Filled.{Filled}
 use Rattle.msg_cache.specs.declared.answer.Filled.TheVariants.{Grown, NoArray}
-use Rattle.msg_cache.specs.declared.answer.Way.TheVariants.{Take}
+use Rattle.msg_cache.specs.declared.answer.Placement.TheVariants.{Take}
 use Rattle.msg_cache.proofs.ClearingLemmas.{same_or}
 use Rattle.msg_cache.specs.Uses.{ArrayUse, live, use_of, use_at, is_free_use}
 use Rattle.msg_cache.proofs.SettledLemmas.{free_at, used_at}
@@ -306,11 +306,11 @@ module _ (look : History → ClassRef → ℕ → ℕ) (key : SettingView) (k : 
       let m : b + n - b ≡ capacity (layout_of key) a = omega arith in
       ap (λ (x : List ℕ). take (b + n - b) (drop b x)) (is ∙ are) ∙ ap (λ (x : ℕ). take x (drop b k.words)) m ∙ ap (λ (x : ℕ). take (capacity (layout_of key) a) (drop x k.words)) at
 
-pub way_by : (z : Layout) (rem : List ℕ) (k : KeeperView) (c : ClassRef) (s a : ℕ) (ws : List ℕ) → header k c ≡ suc a → ws ≡ array_words z k a → length ws ≡ capacity z a → way_in a (find_in ws s) (plan_of (length ws) (occupied_in ws)) ≡ way_of z rem k c s
-way_by z rem k c s a ws h is long =
-    ap (λ (n : ℕ). way_in a (find_in ws s) (plan_of n (occupied_in ws))) long
-    ∙ ap (λ (x : List ℕ). way_in a (find_in x s) (plan_of (capacity z a) (occupied_in x))) is
-    ∙ ap (way_by_header z rem k c s) (sym h)
+pub placement_by : (z : Layout) (rem : List ℕ) (k : KeeperView) (c : ClassRef) (s a : ℕ) (ws : List ℕ) → header k c ≡ suc a → ws ≡ array_words z k a → length ws ≡ capacity z a → placement_in a (find_in ws s) (plan_of (length ws) (occupied_in ws)) ≡ placement_of z rem k c s
+placement_by z rem k c s a ws h is long =
+    ap (λ (n : ℕ). placement_in a (find_in ws s) (plan_of n (occupied_in ws))) long
+    ∙ ap (λ (x : List ℕ). placement_in a (find_in x s) (plan_of (capacity z a) (occupied_in x))) is
+    ∙ ap (placement_by_header z rem k c s) (sym h)
 
 -- an array that was installed has no entries
 pub fresh_find : (look : History → ClassRef → ℕ → ℕ) (key : SettingView) (k k' : KeeperView) (rem has : List ℕ) → InOrder look key k rem has → (c : ClassRef) (a s : ℕ) → c.class < class_total key.origin → a < length (layout_of key).capacities → standing_of k a ≡ Free → 0 < capacity (layout_of key) a
@@ -365,8 +365,8 @@ module _ (look : History → ClassRef → ℕ → ℕ) (key : SettingView) (k : 
 
 -- ---- a fill after a collection
 
-module _ (z : Layout) (rem : List ℕ) (c : ClassRef) (s i n m : ℕ) (k j k' : KeeperView) (way : way_of z rem k c s ≡ Take n) (none : lowest_free z n k ≡ None) (t : Collects z k j m) where
-  -- where none was free at entry
+module _ (z : Layout) (rem : List ℕ) (c : ClassRef) (s i n m : ℕ) (k j k' : KeeperView) (way : placement_of z rem k c s ≡ Take n) (none : lowest_free z n k ≡ None) (t : Collects z k j m) where
+  -- if none was free at entry
   after : (answer : Filled) → MatchOption (lowest_free z n (looks (look_count z k) t.outs k)) ((answer ≡ NoArray) × (k' ≡ j)) (λ a. (answer ≡ Grown) × (k' ≡ grown z c s i a j)) → Fills z rem c s i k k' answer
   after answer ends = subst (FillsBy z c s i k k' answer) (sym way)
       (subst (λ (o : Option ℕ). MatchOption o ((outs : List Bool) × (j : KeeperView) × CollectsBy z outs k j × MatchOption (lowest_free z n (looks (look_count z k) outs k)) ((answer ≡ NoArray) × (k' ≡ j)) (λ a. (answer ≡ Grown) × (k' ≡ grown z c s i a j))) (λ a. (answer ≡ Grown) × (k' ≡ grown z c s i a k))) (sym none)

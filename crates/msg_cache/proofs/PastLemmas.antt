@@ -57,7 +57,7 @@ accepted_next h xs old some all = record {
 pub few_changes : (h : History) → IsAccepted h → size h ≤ length (log h).changes
 few_changes h accepted = few-lists h.changes accepted.some
 
--- where changes are accepted, there is room for them
+-- if changes are accepted, there is room for them
 pub few_more : (h : History) (xs : List Change) → IsAccepted h → 0 < length xs → refusal_of_all (log h) xs ≡ None → size h < h.origin.limits.changes
 few_more h [] accepted some none = absurd (omega arith)
 few_more h (x ∷ xs) accepted some none =

@@ -48,7 +48,7 @@ headed_probes {z} {arrays} {c} {s} {n} {v} {m'} t = subst (Probes z c s v) (sym 
   unended = refl;
 })
 
--- where the word names the array a
+-- if the word names the array a
 pub headed_holding : {arrays : ℕ} {c : ClassRef} {s n : ℕ} {v : SenderView} {m' : Sat} (a : ℕ) → SawHeader arrays c s n v m' → n ≡ suc a
     → ((sender_of m'.0).whereabouts ≡ Holding c a) × ((sender_of m'.0).last.array ≡ Some a) × ((sender_of m'.0).last.reads ≡ [])
 headed_holding {arrays} {c} a t e = (

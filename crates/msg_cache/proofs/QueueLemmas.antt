@@ -14,7 +14,7 @@ use Rattle.std.proofs.Common.{eqb}
 use Rattle.msg_cache.specs.Standings.{place_of}
 use Rattle.msg_cache.proofs.ClearingLemmas.{same_or}
 
--- numbers of which none stands twice
+-- numbers none of which occurs twice
 abbrev pub Differ : List ℕ → Type 0
 Differ queue = (p q : ℕ) → p < q → q < length queue → slice_index queue p ≢ slice_index queue q
 
@@ -75,7 +75,7 @@ filter_alike p q a (suc n) same =
     let rest = filter_alike p q (a + 1) n (λ b l. same b (omega arith)) in
     λ i. cond (same a (omega arith) i) (a ∷ rest i) (rest i)
 
--- one number more
+-- one more number
 filter_one : (p : ℕ → Bool) (x a n : ℕ) → a ≤ x → x < a + n → p x ≡ false → IsPermutation (x ∷ filter p (range_with_len a n)) (filter (λ b. x == b || p b) (range_with_len a n))
 filter_one p x a zero low high out = absurd (omega arith)
 filter_one p x a (suc n) low high out = ⊎_elim

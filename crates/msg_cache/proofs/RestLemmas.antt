@@ -1,20 +1,20 @@
--- A fill and a collection change caches alone.
+-- A fill and a collection change only caches.
 use Rattle.std.proofs.Common.{◌≡◌, ℕ, zero, suc, ◌+◌, List, [], ◌∷◌, Bool, Option, Some, None, refl, ap, ◌∙◌}
 use Rattle.std.specs.Prelude.{MatchOption}
 use Rattle.msg_names.specs.declared.value.ClassRef.{ClassRef}
 use Rattle.msg_tables.specs.History.{History}
 use Rattle.msg_model.specs.State.{Layout, capacity}
-use Rattle.msg_cache.specs.Keeping.{looks, look_count, clears, emptied, all_emptied, CollectsBy, lowest_free, grown, FillsBy, Fills, way_of}
+use Rattle.msg_cache.specs.Keeping.{looks, look_count, clears, emptied, all_emptied, CollectsBy, lowest_free, grown, FillsBy, Fills, placement_of}
 use Rattle.msg_cache.specs.Layout.{base}
 use Rattle.msg_cache.specs.declared.answer.Filled.{Filled}
 use Rattle.msg_cache.specs.declared.answer.Filled.TheVariants.{Grown, NoArray}
-use Rattle.msg_cache.specs.declared.answer.Way.{Way}
-use Rattle.msg_cache.specs.declared.answer.Way.TheVariants.{Present, Use, Take}
+use Rattle.msg_cache.specs.declared.answer.Placement.{Placement}
+use Rattle.msg_cache.specs.declared.answer.Placement.TheVariants.{Present, Use, Take}
 use Rattle.msg_cache.specs.declared.view.KeeperView.{KeeperView}
 use Rattle.msg_cache.specs.declared.view.TurnAt.{TurnAt}
 use Rattle.msg_cache.proofs.ClearingLemmas.{cleared_is}
 
--- what the keeper's view has beside the caches
+-- what the keeper's view has besides the caches
 pub record Rest : Type 0 where
   pub history : History
   pub given : List Bool
@@ -56,10 +56,10 @@ module _ (z : Layout) (c : ClassRef) (s i : ℕ) (k k' : KeeperView) (answer : F
   grows-rest n None (outs, j, collects, ends) = after-rest j (collects-rest z outs k j collects) (lowest_free z n (looks (look_count z k) outs k)) ends
   grows-rest n (Some a) (is, same) = ap rest same
 
-  fills_by-rest : (w : Way) → FillsBy z c s i k k' answer w → rest k' ≡ rest k
+  fills_by-rest : (w : Placement) → FillsBy z c s i k k' answer w → rest k' ≡ rest k
   fills_by-rest Present (is, same) = ap rest same
   fills_by-rest (Use a p) (is, same) = ap rest same
   fills_by-rest (Take n) grows = grows-rest n (lowest_free z n k) grows
 
   pub fills-rest : (remembered : List ℕ) → Fills z remembered c s i k k' answer → rest k' ≡ rest k
-  fills-rest remembered fills = fills_by-rest (way_of z remembered k c s) fills
+  fills-rest remembered fills = fills_by-rest (placement_of z remembered k c s) fills

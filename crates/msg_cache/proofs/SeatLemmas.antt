@@ -43,7 +43,7 @@ at_last_or [] a b (suc j) e = absurd (some-ne-none b (sym e))
 at_last_or (x ∷ xs) a b zero e = inl e
 at_last_or (x ∷ xs) a b (suc j) e = ⊎_elim (λ (t : get_elem? xs j ≡ some b). inl t) (λ (t : (a ≡ b) × (j ≡ length xs)). inr (t.0, ap suc t.1)) (at_last_or xs a b j e)
 
--- two views that differ stand at two places
+-- two views that differ are at two places
 pub views_apart : (views : List View) (i j : ℕ) (a b : View) → get_elem? views i ≡ some a → get_elem? views j ≡ some b → a ≢ b → i ≢ j
 views_apart views i j a b at at' ne eq = ne (some-injective a b (sym at ∙ ap (get_elem? views) eq ∙ at'))
 

@@ -116,8 +116,8 @@ module _ (look : History → ClassRef → ℕ → ℕ) (z : Layout) (origin : Or
       among zero e = omega arith
       among (suc a) e = let t = r.sound.in_range.live_array c a (r.sound.lawful.live_stands c a lt e) in omega arith
 
-  -- The front is raised where the word has the selector that is sought: to the history now, where
-  -- the array is live, and else to what it was when the array was retired.
+  -- The front is raised if the word has the selector that is looked for: to the history now if the
+  -- array is live, and otherwise to what it was when the array was retired.
   pub bucket_step : (a p n : ℕ) → v.whereabouts ≡ Holding v.last.class a → p < capacity z a → 0 < v.last.sel → n ≡ slice_index words (base z a + p)
       → (g : History) × GoesBy look z origin r (Read v.number p) (slice_set words (base z a + p) n) (slice_set views id (Sender (read_on g v (base z a + p) n))) × BeginsWith g v.front
       × (sel_of n ≡ v.last.sel → imp_of n ≡ look g v.last.class v.last.sel) × (sel_of n ≢ v.last.sel → g ≡ v.front)

@@ -118,7 +118,7 @@ module _ (v : StandingsView) (k : KeeperView) (c : ClassRef) (are : v ≡ settle
       let uses = ap (λ l. slice_set l a live) (retired_are header) ∙ sym (map-set use_of (retire c (named header) k) a (Live c)) ∙ ap (λ (n : ℕ). map use_of (slice_set (retire c (named n) k) a (Live c))) read in
       first ∙ (λ i. record { senders = sym senders i; uses = uses i; ready = none i })
 
--- ---- where no array is retired
+-- ---- if no array is retired
 
 nothing_new : (f : ℕ → Bool) (l : List ℕ) → filter (λ a. f a && not (f a)) l ≡ []
 nothing_new f [] = refl

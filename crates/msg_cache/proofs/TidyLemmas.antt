@@ -49,8 +49,8 @@ tidy_given look key k n t = record {
   sound = t.sound;
 }
 
--- Where a change affects no class reference that has a live array, words of live arrays agree after
--- it as before.
+-- If a change affects no class reference that has a live array, words of live arrays agree after it
+-- as before.
 pub agrees_after : (look : History → ClassRef → ℕ → ℕ) (key : SettingView) (k : KeeperView) (x : List Change) → ((c : ClassRef) (s : ℕ) → is_affected_by_all (log k.history) x c ≡ false → look (and_then k.history x) c s ≡ look k.history c s) → TidyBy look key k
     → ((c : ClassRef) → c.class < class_total key.origin → is_affected_by_all (log k.history) x c ≡ true → live_in (layout_of key) k.words c ≡ None)
     → LiveWordsAgreeAfter look key k x

@@ -332,7 +332,7 @@ unmarked_busy marks queue senders cursors a e = ap is_free_use (unmarked marks q
     (λ (past : length queue ≤ place_of queue a). ap is_free_use (by_live (length queue) 0 senders cursors (place_of queue a) past))
     (cases_lt (place_of queue a) (length queue))
 
--- an array waits where the queue has one, while none is ready
+-- an array waits if the queue has one, while none is ready
 pub some_waits : (marks : List Bool) (queue : List ℕ) (senders : ℕ) (cursors : List ℕ) → Unmarked marks queue → Differ queue → list_any is_waiting (uses marks queue 0 senders cursors) ≡ not (length queue == 0)
 some_waits marks [] senders cursors apart differ =
     list_any_none is_waiting (uses marks [] 0 senders cursors) (All-from_get_or (λ u. is_waiting u ≡ false) (uses marks [] 0 senders cursors) free (λ a lt. ap is_waiting (uses_at marks [] 0 senders cursors a) ∙ none a (slice_index_or marks a true) refl))

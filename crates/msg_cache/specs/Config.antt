@@ -19,7 +19,7 @@ weigh [] cs = 0
 weigh (n ∷ ns) [] = 0
 weigh (n ∷ ns) (c ∷ cs) = n * c + weigh ns cs
 
--- the setting of an origin and a config: so many arrays of 4 words, then of 8, and so on
+-- the setting of an origin and a config: this number of arrays of 4 words, then of 8, and so on
 abbrev pub setting_of : OriginView → Config → SettingView
 setting_of origin config = setting_for origin config.senders (spread config.arrays capacities)
 
@@ -36,10 +36,10 @@ refusal_of origin config =
     else if nat_lt origin.limits.words (words_of origin config) then Some TooLarge
     else None
 
--- a fault is that one, where it isn't memory
+-- a fault is this one, unless it is memory
 abbrev pub IsLeastUnlessMemory : OriginView → Config → ArenaFault → Type 0
 IsLeastUnlessMemory origin config fault = fault ≢ Memory → refusal_of origin config ≡ Some fault
 
--- memory is wanting only where no fault holds
+-- memory is lacking only where no fault holds
 abbrev pub NoneHoldsIfMemory : OriginView → Config → ArenaFault → Type 0
 NoneHoldsIfMemory origin config fault = fault ≡ Memory → refusal_of origin config ≡ None

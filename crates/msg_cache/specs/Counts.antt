@@ -5,8 +5,8 @@ use mir.Syntax.{w32}
 use Rattle.msg_cache.specs.declared.answer.Filled.{Filled}
 use Rattle.msg_cache.specs.declared.answer.Filled.TheVariants.{Present, Used, Grown, NoArray}
 use Rattle.msg_cache.specs.declared.answer.Report.{Report}
-use Rattle.msg_cache.specs.declared.answer.Way.{Way}
-use Rattle.msg_cache.specs.declared.answer.Way.TheVariants.{Take}
+use Rattle.msg_cache.specs.declared.answer.Placement.{Placement}
+use Rattle.msg_cache.specs.declared.answer.Placement.TheVariants.{Take}
 
 -- The counts are in proportion, also where one has come to its greatest value.
 pub record AreCounts (r : Report) : Type 0 where
@@ -39,7 +39,7 @@ after_entry r = record r { fills = one_more r.fills }
 abbrev pub after_flush : Report → Report
 after_flush r = record r { flushes = one_more r.flushes; retired = one_more r.retired }
 
--- there was a collection, and so many arrays became free
+-- there was a collection, and this number of arrays became free
 abbrev pub after_collection : ℕ → Report → Report
 after_collection n r = record r { collections = one_more r.collections; freed = more n r.freed }
 
@@ -64,7 +64,7 @@ abbrev pub MayCollect : Report → Report → Type 0
 MayCollect r r' = (r' ≡ r) ⊎ ((n : ℕ) × (r' ≡ after_collection n r))
 
 -- from one report to the next there was a fill that needed this and had this answer
-abbrev pub CountsFill : Way → Filled → Report → Report → Type 0
+abbrev pub CountsFill : Placement → Filled → Report → Report → Type 0
 CountsFill way Present r r' = r' ≡ r
 CountsFill way Used r r' = r' ≡ after_entry r
 CountsFill way Grown r r' = (j : Report) × MayCollect r j × CountsGrowth j r'

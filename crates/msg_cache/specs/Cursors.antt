@@ -12,7 +12,7 @@ cursor own known rest n = if nat_lt n known then slice_index own n else rest
 abbrev pub every_cursor : List ℕ → ℕ → ℕ → List ℕ
 every_cursor own known rest = map (cursor own known rest) (range_with_len 0 (length own))
 
--- what contracts see of cursors: how many places each sender has passed
+-- the contracts' view of cursors: how many places each sender has passed
 abbrev pub cursors_view : Inside → List ℕ
 cursors_view s = every_cursor s.own.items s.known s.rest
 
@@ -34,7 +34,7 @@ AreCut by senders old new = (n : ℕ) → n < senders → slice_index new n + by
 abbrev pub SameBelow : ℕ → List ℕ → List ℕ → Type 0
 SameBelow senders old new = (n : ℕ) → n < senders → slice_index new n ≡ slice_index old n
 
--- one of them stands there
+-- one of them is there
 abbrev pub SomeStandsAt : ℕ → List ℕ → ℕ → Type 0
 SomeStandsAt senders cursors place = (n : ℕ) × (n < senders) × (slice_index cursors n ≡ place)
 

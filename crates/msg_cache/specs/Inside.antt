@@ -1,4 +1,4 @@
--- What contracts see of an arena, of a sender and of the turn, and what holds of their fields.
+-- The contracts' view of an arena, of a sender and of the turn, and what holds of their fields.
 use Rattle.std.specs.Prelude.{◌≡◌, ℕ, ◌^◌, ◌<◌, ◌≤◌, [], ◌∷◌, All, length, slice_index, slice_index_or}
 use Rattle.msg_buckets.specs.Capacity.{IsCapacity}
 use Rattle.msg_tables.specs.declared.limits.TheConstants.{MOST_SENDERS}

@@ -19,8 +19,8 @@ use Rattle.msg_model.specs.Steps.{is_free, seen_out}
 use Rattle.msg_model.specs.View.{standing_at}
 use Rattle.msg_cache.specs.declared.answer.Filled.{Filled}
 use Rattle.msg_cache.specs.declared.answer.Filled.TheVariants.{Present as DidNothing, Used, Grown, NoArray}
-use Rattle.msg_cache.specs.declared.answer.Way.{Way}
-use Rattle.msg_cache.specs.declared.answer.Way.TheVariants.{Present, Use, Take}
+use Rattle.msg_cache.specs.declared.answer.Placement.{Placement}
+use Rattle.msg_cache.specs.declared.answer.Placement.TheVariants.{Present, Use, Take}
 use Rattle.msg_cache.specs.declared.view.KeeperView.{KeeperView}
 use Rattle.msg_cache.specs.Layout.{SettingView, layout_of, header_at, base}
 use Rattle.msg_cache.specs.Rule.{TidyBy}
@@ -68,7 +68,7 @@ abbrev pub looks : ℕ → List Bool → KeeperView → KeeperView
 looks zero outs k = k
 looks (suc n) outs k = looked n (awaits outs n) (looks n outs k)
 
--- the same of one array's standing
+-- the same for one array's standing
 abbrev pub looked_by : ℕ → List Bool → Standing → Standing
 looked_by zero outs s = s
 looked_by (suc n) outs s = if awaits outs n then seen_out n (looked_by n outs s) else looked_by n outs s
@@ -87,7 +87,7 @@ look_count z k = if list_any is_retired k.standings then z.senders else 0
 abbrev pub cleared : ℕ → KeeperView → KeeperView
 cleared i k = if slice_index k.words i == 0 then k else stored i 0 k
 
--- the same of each of the first n words of those that begin at b
+-- the same for each of the first n words of those that begin at b
 abbrev pub clears : ℕ → ℕ → KeeperView → KeeperView
 clears b zero k = k
 clears b (suc n) k = cleared (b + n) (clears b n k)
@@ -96,7 +96,7 @@ clears b (suc n) k = cleared (b + n) (clears b n k)
 abbrev pub emptied : Layout → ℕ → KeeperView → KeeperView
 emptied z a k = clears (base z a) (capacity z a) k
 
--- the same of each of these arrays
+-- the same for each of these arrays
 abbrev pub all_emptied : Layout → List ℕ → KeeperView → KeeperView
 all_emptied z [] k = k
 all_emptied z (a ∷ more) k = all_emptied z more (emptied z a k)
@@ -138,35 +138,35 @@ abbrev pub remember : Layout → ClassRef → ℕ → List ℕ → List ℕ
 remember z c zero remembered = remembered
 remember z c (suc a) remembered = slice_set remembered (slot_of c) (capacity z a)
 
-abbrev pub way_by_plan : ℕ → ℕ → Plan → Way
-way_by_plan a p PlanUse = Use a p
-way_by_plan a p (PlanTake n) = Take n
+abbrev pub placement_by_plan : ℕ → ℕ → Plan → Placement
+placement_by_plan a p PlanUse = Use a p
+placement_by_plan a p (PlanTake n) = Take n
 
-abbrev pub way_in : ℕ → Found → Plan → Way
-way_in a (hit i) plan = Present
-way_in a (empty p) plan = way_by_plan a p plan
-way_in a wrapped plan = way_by_plan a 0 plan
+abbrev pub placement_in : ℕ → Found → Plan → Placement
+placement_in a (hit i) plan = Present
+placement_in a (empty p) plan = placement_by_plan a p plan
+placement_in a wrapped plan = placement_by_plan a 0 plan
 
--- what an entry needs, where these are the words of the live array
-abbrev pub way_among : List ℕ → ℕ → ℕ → Way
-way_among words a s = way_in a (find_in words s) (plan_of (length words) (occupied_in words))
+-- what an entry needs, if these are the words of the live array
+abbrev pub placement_among : List ℕ → ℕ → ℕ → Placement
+placement_among words a s = placement_in a (find_in words s) (plan_of (length words) (occupied_in words))
 
-abbrev pub way_by_header : Layout → List ℕ → KeeperView → ClassRef → ℕ → ℕ → Way
-way_by_header z remembered k c s zero = Take (remembered_capacity remembered c)
-way_by_header z remembered k c s (suc a) = way_in a (find_in (array_words z k a) s) (plan_of (capacity z a) (occupied_in (array_words z k a)))
+abbrev pub placement_by_header : Layout → List ℕ → KeeperView → ClassRef → ℕ → ℕ → Placement
+placement_by_header z remembered k c s zero = Take (remembered_capacity remembered c)
+placement_by_header z remembered k c s (suc a) = placement_in a (find_in (array_words z k a) s) (plan_of (capacity z a) (occupied_in (array_words z k a)))
 
--- what an entry needs: nothing where the selector is in the live array, else the place of it where
--- the array has room, else an array
-abbrev pub way_of : Layout → List ℕ → KeeperView → ClassRef → ℕ → Way
-way_of z remembered k c s = way_by_header z remembered k c s (header k c)
+-- what an entry needs: nothing if the selector is in the live array, otherwise its place there if
+-- the array has room, otherwise an array
+abbrev pub placement_of : Layout → List ℕ → KeeperView → ClassRef → ℕ → Placement
+placement_of z remembered k c s = placement_by_header z remembered k c s (header k c)
 
 -- facts of an entry that goes to the live array, and of one that needs an array
-abbrev pub OnUse : Way → (ℕ → ℕ → Type 0) → Type 0
+abbrev pub OnUse : Placement → (ℕ → ℕ → Type 0) → Type 0
 OnUse Present P = Unit {0}
 OnUse (Use a p) P = P a p
 OnUse (Take n) P = Unit {0}
 
-abbrev pub OnTake : Way → (ℕ → Type 0) → Type 0
+abbrev pub OnTake : Placement → (ℕ → Type 0) → Type 0
 OnTake Present P = Unit {0}
 OnTake (Use a p) P = Unit {0}
 OnTake (Take n) P = P n
@@ -175,7 +175,7 @@ OnTake (Take n) P = P n
 abbrev pub EndsAt : Layout → KeeperView → ℕ → ℕ → ℕ → Type 0
 EndsAt z k a s p = find_in (array_words z k a) s ≡ empty p
 
--- the array may have one entry more
+-- the array may have one more entry
 abbrev pub TakesOneMore : Layout → KeeperView → ℕ → Type 0
 TakesOneMore z k a = occupied_in (array_words z k a) + 1 ≤ fill_limit (capacity z a)
 
@@ -185,7 +185,7 @@ pub record CanUse (z : Layout) (k : KeeperView) (c : ClassRef) (s a p : ℕ) : T
   pub found : EndsAt z k a s p
   pub room : TakesOneMore z k a
 
--- the same of an array by its words
+-- the same for an array by its words
 abbrev pub CanUseAmong : List ℕ → ℕ → ℕ → ℕ → ℕ → Type 0
 CanUseAmong words array s a p = (a ≡ array) × (find_in words s ≡ empty p) × (occupied_in words + 1 ≤ fill_limit (length words))
 
@@ -206,7 +206,7 @@ Grows z c s i n k k' answer = MatchOption (lowest_free z n k)
     (λ a. (answer ≡ Grown) × (k' ≡ grown z c s i a j)))
     (λ a. (answer ≡ Grown) × (k' ≡ grown z c s i a k))
 
-abbrev pub FillsBy : Layout → ClassRef → ℕ → ℕ → KeeperView → KeeperView → Filled → Way → Type 0
+abbrev pub FillsBy : Layout → ClassRef → ℕ → ℕ → KeeperView → KeeperView → Filled → Placement → Type 0
 FillsBy z c s i k k' answer Present = (answer ≡ DidNothing) × (k' ≡ k)
 FillsBy z c s i k k' answer (Use a p) = (answer ≡ Used) × (k' ≡ filled z a p (word_of s i) k)
 FillsBy z c s i k k' answer (Take n) = Grows z c s i n k k' answer
@@ -214,7 +214,7 @@ FillsBy z c s i k k' answer (Take n) = Grows z c s i n k k' answer
 -- a fill of the class reference c with the selector s and the implementation i took the view k to
 -- k', while these capacities were remembered
 abbrev pub Fills : Layout → List ℕ → ClassRef → ℕ → ℕ → KeeperView → KeeperView → Filled → Type 0
-Fills z remembered c s i k k' answer = FillsBy z c s i k k' answer (way_of z remembered k c s)
+Fills z remembered c s i k k' answer = FillsBy z c s i k k' answer (placement_of z remembered k c s)
 
 -- ---- when each answer comes
 
@@ -222,31 +222,31 @@ Fills z remembered c s i k k' answer = FillsBy z c s i k k' answer (way_of z rem
 abbrev pub IsPresent : Layout → KeeperView → ClassRef → ℕ → Type 0
 IsPresent z k c s = (a : ℕ) × (header k c ≡ suc a) × ((i : ℕ) × (find_in (array_words z k a) s ≡ hit i))
 
--- the live array of the class reference takes one entry more
+-- the live array of the class reference takes one more entry
 abbrev pub HasRoom : Layout → KeeperView → ClassRef → Type 0
 HasRoom z k c = (a : ℕ) × (header k c ≡ suc a) × (plan_of (capacity z a) (occupied_in (array_words z k a)) ≡ PlanUse)
 
--- no array of the capacity that is wanted was free, nor after one collection, which alone has
+-- no array of the needed capacity was free at entry or after one collection, which is all that
 -- changed the view
 abbrev pub NoneIsFree : Layout → KeeperView → KeeperView → Type 0
 NoneIsFree z k k' = (n : ℕ) × (lowest_free z n k ≡ None) × (outs : List Bool) × CollectsBy z outs k k' × (lowest_free z n k' ≡ None)
 
--- which answer of a fill comes when: nothing was done where the selector is there, the live array
--- is used where it has room, and only then is an array needed
+-- when each result of a fill comes: nothing is done if the selector is there, the live array is
+-- used if it has room, and only otherwise is an array needed
 abbrev pub FillLaw : Type 0
 FillLaw = (z : Layout) (remembered : List ℕ) (c : ClassRef) (s i : ℕ) (k k' : KeeperView) (answer : Filled) → Fills z remembered c s i k k' answer
     → ((answer ≡ DidNothing) ↔ IsPresent z k c s) × ((answer ≡ Used) ↔ ((IsPresent z k c s → ⊥) × HasRoom z k c)) × ((answer ≡ DidNothing) → k' ≡ k) × ((answer ≡ NoArray) → NoneIsFree z k k')
 
--- A fill changes caches alone: not the history, nor which sender numbers are given out, nor since
--- when, nor where the turn is.
+-- A fill changes only caches. It doesn't change the history, which sender numbers are given out,
+-- since when they are, or where the turn is.
 abbrev pub FillKeeps : Type 0
 FillKeeps = (z : Layout) (remembered : List ℕ) (c : ClassRef) (s i : ℕ) (k k' : KeeperView) (answer : Filled) → Fills z remembered c s i k k' answer
     → (k'.history ≡ k.history) × (k'.given ≡ k.given) × (k'.turn ≡ k.turn) × (k'.since ≡ k.since)
 
 -- ---- between calls
 
--- what holds of the keeper's view between its calls, with the capacities that are remembered, and
--- how many entries each array has
+-- what holds for the keeper's view between its calls, with the capacities that are remembered and
+-- the number of entries of each array
 pub record InOrder (look : History → ClassRef → ℕ → ℕ) (key : SettingView) (k : KeeperView) (remembered occupied : List ℕ) : Type 0 where
   pub tidy : TidyBy look key k
   pub cleared : (a p : ℕ) → standing_of k a ≡ Free → p < capacity (layout_of key) a → slice_index k.words (base (layout_of key) a + p) ≡ 0

@@ -1,4 +1,4 @@
--- What the steps on a table are to the machine of events.
+-- The events of the machine that the steps on a table are.
 use Rattle.std.specs.Prelude.{List, ◌≡◌, ◌≢◌, ℕ, zero, suc, ◌+◌, ◌-◌, ◌==◌, ◌<◌, ◌≤◌, [], ◌∷◌, ◌++◌, length, true, false, slice_index, slice_set, replicate}
 use Rattle.msg_tables.specs.Origin.{class_total}
 use mathlib.Core.Option.{some}
@@ -45,30 +45,30 @@ seen_in (Flush c) word = Nothing
 seen_in (Clear a p) word = Nothing
 seen_in (Commit x) word = Nothing
 
--- From one state of the table to the next is this event, by a step that loads or stores this word:
--- at the state that was shown it isn't refused, what is seen is what that state shows, the rule
--- holds of the next one, and that shows the state after the event.
+-- From one state of the table to the next is this event, by a step that loads or stores this word.
+-- It isn't refused at the state that was shown, and what is seen is what that state shows. The rule
+-- holds for the next state of the table, which shows the state after the event.
 pub record IsEvent (key : SettingView) (s : Table ℕ View) (r : holds lookup key s) (e : Event) (word : ℕ) (s' : Table ℕ View) : Type 0 where
   pub legal : Legal lookup (layout_of key) (shown_at key s r) e
   pub sees : seen_in e word ≡ shown_to (shown_at key s r) e
   pub keeps_rule : holds lookup key s'
   pub shows : (r' : holds lookup key s') → shown_at key s' r' ≡ after (layout_of key) (shown_at key s r) e
 
--- the state after a Look at each of so many sender numbers, from one on
+-- the state after a Look at each of this number of sender numbers, from one on
 abbrev pub after_looks : Layout → ℕ → ℕ → State → State
 after_looks z n zero m = m
 after_looks z n (suc d) m = after z (after_looks z n d m) (Look (n + d))
 
--- From one state of the table to the next is a Look at each of so many sender numbers, from one on,
--- one after another: none is refused, each sees its sender out, the rule holds of the next state,
--- and that shows the state after the last of them.
+-- From one state of the table to the next is a Look at each of this number of sender numbers, from
+-- one on, one after another. None is refused, and each sees its sender out. The rule holds for the
+-- next state, which shows the state after the last Look.
 pub record AreLooks (key : SettingView) (s : Table ℕ View) (r : holds lookup key s) (n d : ℕ) (s' : Table ℕ View) : Type 0 where
   pub legal : (e : ℕ) → e < d → Legal lookup (layout_of key) (after_looks (layout_of key) n e (shown_at key s r)) (Look (n + e))
   pub sees : (e : ℕ) → e < d → SeenOut true ≡ shown_to (after_looks (layout_of key) n e (shown_at key s r)) (Look (n + e))
   pub keeps_rule : holds lookup key s'
   pub shows : (r' : holds lookup key s') → shown_at key s' r' ≡ after_looks (layout_of key) n d (shown_at key s r)
 
--- From one state of the table to the next is no event: the rule holds of the next one, and that
+-- From one state of the table to the next is no event: the rule holds for the next state, which
 -- shows the same.
 pub record IsNone (key : SettingView) (s : Table ℕ View) (r : holds lookup key s) (s' : Table ℕ View) : Type 0 where
   pub keeps_rule : holds lookup key s'
@@ -76,7 +76,7 @@ pub record IsNone (key : SettingView) (s : Table ℕ View) (r : holds lookup key
 
 -- ---- the state
 
--- however the rule holds of a table, the state that is shown is one
+-- however the rule holds for a table, it shows the same state
 abbrev pub OneIsShown : Type 0
 OneIsShown = (key : SettingView) (s : Table ℕ View) (r r' : holds lookup key s) → shown_at key s r ≡ shown_at key s r'
 
@@ -94,8 +94,8 @@ OpeningIsShown = (key : SettingView) → IsSound key.origin → 0 < key.senders
     → let s = opened (replicate (word_count (layout_of key)) 0) [] (Keeper (first_keeper key)) in
     holds lookup key s × ((r : holds lookup key s) → shown_at key s r ≡ opening key.origin)
 
--- The number of each sender is given out, and it has seen all changes that there were when it was
--- given out last, as the keeper knows it.
+-- The number of each sender is given out. By what the keeper knows, the sender has seen all changes
+-- that there were when the number was last given out.
 abbrev pub SendersHaveSeen : Type 0
 SendersHaveSeen = (key : SettingView) (s : Table ℕ View) → holds lookup key s → (chair : ℕ) (k : KeeperView) → get_elem? s.views chair ≡ some (Keeper k)
     → (id : ℕ) (v : SenderView) → get_elem? s.views id ≡ some (Sender v) → (awaits k.given v.number ≡ true) × (since_of k.since v.number ≤ size v.front)
@@ -131,8 +131,8 @@ abbrev pub VersionIsNone : Type 0
 VersionIsNone = OfSender (λ key s r id v. ((c : ClassRef) (a : ℕ) → v.whereabouts ≢ Holding c a)
     → IsNone key s r (stepped s 0 (slice_index s.words 0) id [] (Sender (told_to v (shown_at key s r).history)) keeps))
 
--- Nor is its load of a stamp, with no array held. The sender has then seen the whole history too,
--- and no change of that after so many as the stamp says affects the class reference.
+-- A sender's load of a stamp, with no array held, is no event. The sender has then seen the whole
+-- history too. No change of it after as many as the stamp says affects the class reference.
 abbrev pub StampLoadIsNone : Type 0
 StampLoadIsNone = OfSender (λ key s r id v. (c : ClassRef) → c.class < class_total key.origin → ((d : ClassRef) (a : ℕ) → v.whereabouts ≢ Holding d a)
     → let i = stamp_at (layout_of key) c in
@@ -161,8 +161,8 @@ KeeperInstalls key s r id k = (c : ClassRef) (a : ℕ) → c.class < class_total
     → HasNoEntry (layout_of key) k a
     → IsEvent key s r (Install c a) (suc a) (stepped s (header_at c) (suc a) id [] (Keeper (installed c a k)) keeps)
 
--- a store of an array's number and one in a header word, where the array is free and its words are
--- 0, is Install
+-- a store of an array's number plus one in a header word, if the array is free and its words are 0,
+-- is Install
 abbrev pub StoreIsInstall : Type 0
 StoreIsInstall = OfKeeper KeeperInstalls
 
@@ -188,7 +188,7 @@ KeeperRestLooks key s r id k = (n : ℕ) → n ≤ key.senders → NoneIsGivenFr
     → AreLooks key s r n (key.senders - n) (stepped s 0 (slice_index s.words 0) id [] (Keeper (rest_looked n (key.senders - n) k)) keeps)
 
 -- the keeper's load of the count of changes, by which it sees out all sender numbers from one on,
--- of which nobody has any, is a Look at each of them
+-- none of which anybody has, is a Look at each of them
 abbrev pub LoadIsRest : Type 0
 LoadIsRest = OfKeeper KeeperRestLooks
 
@@ -204,8 +204,8 @@ abbrev pub KeeperCommits : OfAKeeper
 KeeperCommits key s r id k = (xs : List Change) (g : History) → 0 < length xs → k.turn ≡ Home g → StampsAreClosedFor key k xs → Legal lookup (layout_of key) (shown_at key s r) (Commit xs)
     → IsEvent key s r (Commit xs) (size k.history + 1) (stepped s 0 (size k.history + 1) id [] (Keeper (committed xs k)) keeps)
 
--- the store of the count of changes, one higher, while the turn is joined, where no live entry
--- would disagree, is Commit
+-- the store of the count of changes, one higher, while the turn is joined, if no live entry would
+-- disagree, is Commit
 abbrev pub StoreIsCommit : Type 0
 StoreIsCommit = OfKeeper KeeperCommits
 
@@ -231,7 +231,7 @@ abbrev pub KeeperSplits : OfAKeeper
 KeeperSplits key s r id k = (n : ℕ) (stamps : List (ClassRef × ℕ)) → n < key.senders → awaits k.given n ≡ false
     → IsNone key s r (record { words = s.words; homes = s.homes; views = slice_set s.views id (Keeper (given_out n k)) ++ Sender (newcomer_with n stamps k.history) ∷ [] })
 
--- nor is it one that a sender's seat is split off, whichever stamps it is said to have loaded
+-- splitting off a sender's seat is no event, whichever stamps it is said to have loaded
 abbrev pub SplitIsNone : Type 0
 SplitIsNone = OfKeeper KeeperSplits
 
@@ -239,7 +239,7 @@ abbrev pub KeeperJoins : OfAKeeper
 KeeperJoins key s r id k = (other : ℕ) (v : SenderView) → ¬ (other ≡ id) → v.whereabouts ≡ Out → get_elem? (slice_set s.views id (Keeper (taken_in v k))) other ≡ some (Sender v)
     → IsNone key s r (record { words = s.words; homes = s.homes; views = slice_set (slice_set s.views id (Keeper (taken_in v k))) other Spent })
 
--- nor that the seat of a sender that is out is joined
+-- joining the seat of a sender that is out is no event
 abbrev pub JoinIsNone : Type 0
 JoinIsNone = OfKeeper KeeperJoins
 
@@ -247,7 +247,7 @@ abbrev pub KeeperSplitsTurn : OfAKeeper
 KeeperSplitsTurn key s r id k = k.turn ≢ Away
     → IsNone key s r (record { words = s.words; homes = s.homes; views = slice_set s.views id (Keeper (lent k)) ++ Turn k.history ∷ [] })
 
--- nor that the turn's seat is split off
+-- splitting off the turn's seat is no event
 abbrev pub SplitTurnIsNone : Type 0
 SplitTurnIsNone = OfKeeper KeeperSplitsTurn
 
@@ -255,6 +255,6 @@ abbrev pub KeeperJoinsTurn : OfAKeeper
 KeeperJoinsTurn key s r id k = (other : ℕ) (g : History) → ¬ (other ≡ id) → get_elem? (slice_set s.views id (Keeper (at_home g k))) other ≡ some (Turn g)
     → IsNone key s r (record { words = s.words; homes = s.homes; views = slice_set (slice_set s.views id (Keeper (at_home g k))) other Spent })
 
--- nor that it is joined
+-- joining the turn's seat is no event
 abbrev pub JoinTurnIsNone : Type 0
 JoinTurnIsNone = OfKeeper KeeperJoinsTurn

@@ -1,4 +1,4 @@
--- What contracts see of a set of numbers in layers.
+-- The contracts' view of a set of numbers in layers.
 use Rattle.std.specs.Prelude.{◌≡◌, ℕ, ◌+◌, ◌*◌, ◌<◌, ◌≤◌, List, Bool, true, false, length, slice_index_or}
 use Rattle.msg_cache.specs.BitSet.{HasNone, HasSomeInWord}
 use Rattle.msg_cache.specs.declared.layered_set.LayeredSet.TheInside.{Inside}

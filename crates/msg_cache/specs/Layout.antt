@@ -1,17 +1,17 @@
--- Where the words of a table stand.
+-- The places of a table's words.
 use Rattle.std.specs.Prelude.{◌≡◌, ℕ, ◌+◌, ◌*◌, ◌<◌, List, [], ◌∷◌, take}
 use Rattle.msg_names.specs.declared.value.ClassRef.{ClassRef}
 use Rattle.msg_tables.specs.Origin.{OriginView, class_total}
 use Rattle.msg_names.specs.ClassRef.{slot_of}
 use Rattle.msg_model.specs.State.{Layout, capacity}
 
--- what a table is made for: an origin, so many senders, and arrays of these capacities
+-- what a table is made for: an origin, this number of senders, and arrays of these capacities
 pub record SettingView : Type 0 where
   pub origin : OriginView
   pub senders : ℕ
   pub capacities : List ℕ
 
--- the setting of so many senders, and arrays of these capacities
+-- the setting of this number of senders, and arrays of these capacities
 abbrev pub setting_for : OriginView → ℕ → List ℕ → SettingView
 setting_for origin senders capacities = record { origin = origin; senders = senders; capacities = capacities }
 
@@ -36,12 +36,12 @@ base z a = 1 + 2 * z.classes + total (take a z.capacities)
 abbrev pub array_end : Layout → ℕ
 array_end z = 1 + 2 * z.classes + total z.capacities
 
--- The stamps, one for each class reference, stand after 8 words that are never used, so that none
+-- The stamps, one for each class reference, are after 8 words that are never used, so that none
 -- shares a line of 64 bytes with an array.
 abbrev pub stamps : Layout → ℕ
 stamps z = array_end z + 8
 
--- where the stamp of a class reference stands
+-- where the stamp of a class reference is
 abbrev pub stamp_at : Layout → ClassRef → ℕ
 stamp_at z c = stamps z + slot_of c
 
@@ -49,8 +49,8 @@ stamp_at z c = stamps z + slot_of c
 abbrev pub probes : Layout → ℕ
 probes z = stamps z + 2 * z.classes
 
--- Probe words stand 8 words apart, and 8 after the last stamp, so that none shares a line of 64
--- bytes with another or with a stamp. What is between is never used.
+-- Probe words are 8 words apart, and 8 after the last stamp, so that none shares a line of 64 bytes
+-- with another or with a stamp. The words between them are never used.
 abbrev pub probe_at : Layout → ℕ → ℕ
 probe_at z n = probes z + 8 * n + 7
 

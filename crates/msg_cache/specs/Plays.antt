@@ -1,4 +1,4 @@
--- What each step tells the seat that makes it.
+-- What each step means to the seat that makes it.
 use Rattle.std.specs.Prelude.{◌≡◌, ◌≢◌, ℕ, zero, suc, ◌+◌, ◌-◌, ◌==◌, ◌≤◌, List, [], ◌∷◌, ◌++◌, length, map, Bool, true, false, Option, Some, None, slice_set, slice_index, if◌then◌else◌}
 use Rattle.atomic_table.specs.Table.{Me, Step}
 use Rattle.msg_names.specs.declared.value.ClassRef.{ClassRef}
@@ -75,7 +75,7 @@ turn_of Spent = no_history
 
 -- ---- a sender's views
 
--- it has seen the word n in the header of c, where it seeks s
+-- it has seen the word n in the header of c, when it looked for s
 abbrev pub headed : ClassRef → ℕ → History → SenderView → ℕ → SenderView
 headed c s g v n = record { number = v.number; front = g; whereabouts = seeing c (named n); count = v.count + 1; looks = v.looks; stamps = v.stamps; last = record { class = c; sel = s; array = named n; reads = [] } }
 
@@ -107,12 +107,12 @@ newcomer n h = newcomer_with n [] h
 abbrev pub renewed : SenderView → History → SenderView
 renewed v h = newcomer_with v.number v.stamps h
 
--- ---- what a sender's steps tell
+-- ---- what a sender learns from its steps
 
 abbrev pub seated : SenderView → Sat
 seated v = (Sender v, [])
 
--- for a class reference and a selector, in a table of so many arrays, the word n was found
+-- for a class reference and a selector, in a table of this number of arrays, the word n was found
 pub record SawHeader (arrays : ℕ) (c : ClassRef) (s n : ℕ) (v : SenderView) (m' : Sat) : Type 0 where
   pub front : History
   pub seat : m' ≡ seated (headed c s front v n)
@@ -120,7 +120,7 @@ pub record SawHeader (arrays : ℕ) (c : ClassRef) (s n : ℕ) (v : SenderView) 
   pub accepted : IsAccepted front
   pub among : n ≤ arrays
 
--- what a header load tells
+-- what is learnt from a header load
 abbrev pub Headed : ℕ → ClassRef → ℕ → Telling
 Headed arrays c s st m n m' = SawHeader arrays c s n (sender_of m.0) m'
 
@@ -133,7 +133,7 @@ pub record SawWord (look : History → ClassRef → ℕ → ℕ) (i n : ℕ) (v 
   pub hit : sel_of n ≡ v.last.sel → imp_of n ≡ look front v.last.class v.last.sel
   pub miss : sel_of n ≢ v.last.sel → front ≡ v.front
 
--- what a bucket load tells: the word is the entry of a lookup or not of the selector
+-- what is learnt from a bucket load: the word is the entry of a lookup, or not of the selector
 abbrev pub Reads : (History → ClassRef → ℕ → ℕ) → Telling
 Reads look st m n m' = SawWord look st.word n (sender_of m.0) m'
 
@@ -152,11 +152,11 @@ pub record SawStamp (c : ClassRef) (n : ℕ) (v : SenderView) (m' : Sat) : Type 
   pub accepted : IsAccepted front
   pub since : last_affected front c ≤ n
 
--- what a load of a stamp tells
+-- what is learnt from a load of a stamp
 abbrev pub Stamped : ClassRef → Telling
 Stamped c st m n m' = SawStamp c n (sender_of m.0) m'
 
--- what a load of the count of changes tells
+-- what is learnt from a load of the count of changes
 abbrev pub Published : Telling
 Published st m n m' = SawVersion n (sender_of m.0) m'
 
@@ -190,16 +190,16 @@ committed xs k = record k { history = and_then k.history xs; words = slice_set k
 abbrev pub looked : ℕ → Bool → KeeperView → KeeperView
 looked n out k = record k { standings = if out then map (seen_out n) k.standings else k.standings; looked_at = k.looked_at ++ n ∷ [] }
 
--- the same of so many sender numbers, from one on, which are all out
+-- the same for this number of sender numbers, from one on, which are all out
 abbrev pub rest_looked : ℕ → ℕ → KeeperView → KeeperView
 rest_looked n zero k = k
 rest_looked n (suc d) k = looked (n + d) true (rest_looked n d k)
 
--- a sender number is out, and how many changes there are is noted
+-- a sender number is out, and the number of changes is noted
 abbrev pub given_out : ℕ → KeeperView → KeeperView
 given_out n k = record k { given = slice_set k.given n true; since = (n, size k.history) ∷ k.since }
 
--- a sender is back, and what it had seen is told
+-- a sender is back, and what it had seen is known
 abbrev pub taken_in : SenderView → KeeperView → KeeperView
 taken_in v k = record k { given = slice_set k.given v.number false; told = v.front }
 
@@ -214,7 +214,7 @@ at_home g k = record k { turn = Home g }
 abbrev pub lent : KeeperView → KeeperView
 lent k = record k { turn = Away }
 
--- ---- what the keeper's steps tell
+-- ---- what the keeper learns from its steps
 
 -- a keeper's seat, which has no other views
 abbrev pub kept : KeeperView → Sat
@@ -241,7 +241,7 @@ Installs st m n m' = (c : ClassRef) (a : ℕ) → st.word ≡ header_at c → st
 abbrev pub Commits : List Change → Telling
 Commits xs st m n m' = (m' ≡ kept (committed xs (keeper_of m.0))) × IsTold (keeper_of m.0)
 
--- the sender number was looked at, and is awaited no more if its probe word was 0
+-- the sender number was looked at, and is no longer awaited if its probe word was 0
 abbrev pub Looks : ℕ → Telling
 Looks i st m n m' = m' ≡ kept (looked i (n == 0) (keeper_of m.0))
 

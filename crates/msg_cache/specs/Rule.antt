@@ -64,7 +64,7 @@ shown z k whereabouts = state_from k.history (live_in z k.words) (word_in z k.wo
 
 -- ---- the rule
 
--- changes of a sound origin that were accepted one after another, in lists of which none is empty
+-- changes of a sound origin that were accepted one after another, in lists none of which is empty
 pub record IsAccepted (h : History) : Type 0 where
   pub origin : IsSound h.origin
   pub changes : IsLog (log h)

@@ -1,4 +1,4 @@
--- What contracts see of the seats of a table: who sits there, what is known there, and how a step
+-- The contracts' view of the seats of a table: who sits there, what is known there, and how a step
 -- changes that.
 use Rattle.std.specs.Prelude.{◌≡◌, ◌<◌, ℕ, List, length}
 use Rattle.atomic_table.specs.Seated.{TableId}
@@ -64,6 +64,6 @@ IsInOrder key s remembered occupied = InOrder lookup key (keeper_at s) remembere
 abbrev pub uses_at : ℕ → Seat ℕ View → StandingsView
 uses_at senders s = settled senders (keeper_at s).standings
 
--- a sender is what its seat knows, and where its probe word stands
+-- a sender is what its seat knows, and where its probe word is
 abbrev pub prober_at : Seat ℕ View → ℕ → ProberView
 prober_at s place = record { table = s.table_id; place = place; sender = sender_at s }

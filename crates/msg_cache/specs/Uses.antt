@@ -1,4 +1,4 @@
--- What contracts see of the keeper's copy of what arrays are used for.
+-- The contracts' view of the keeper's copy of what arrays are used for.
 use Rattle.std.specs.Prelude.{◌≡◌, ℕ, zero, suc, ◌&&◌, ◌<◌, ◌≤◌, not, List, [], Bool, true, false, length, map, replicate, slice_index_or, slice_set}
 use Rattle.std.specs.List.{range_with_len, filter}
 use Rattle.msg_model.specs.declared.state.Standing.{Standing}
@@ -41,7 +41,7 @@ is_waiting free = false
 is_waiting live = false
 is_waiting (waiting awaited) = true
 
--- so many arrays, which are free, and so many senders
+-- this number of arrays, which are free, and this number of senders
 abbrev pub all_free : ℕ → ℕ → StandingsView
 all_free arrays senders = record { senders = senders; uses = replicate arrays free; ready = [] }
 

@@ -1,4 +1,4 @@
--- What contracts see of an arena, of senders and of the right to change.
+-- The contracts' view of an arena, of senders and of the right to change.
 use Rattle.std.specs.Prelude.{◌≡◌, ◌<◌, ℕ}
 use Rattle.atomic_table.specs.Seated.{TableId}
 use Rattle.msg_names.specs.Number.{selector_number, imp_number}
@@ -27,7 +27,7 @@ layout a = layout_of a.key
 abbrev pub classes : ArenaView → ℕ
 classes a = class_total a.key.origin
 
--- what a sender knows, of which table, and where its probe word stands
+-- what a sender knows, of which table, and where its probe word is
 pub record ProberView : Type 0 where
   pub table : TableId
   pub place : ℕ
@@ -42,7 +42,7 @@ pub record TurnView : Type 0 where
   pub table : TableId
   pub history : History
 
--- the turn is of the arena, and stands at this history
+-- the turn is of the arena, and is at this history
 abbrev pub IsTurnAt : ArenaView → History → TurnView → Type 0
 IsTurnAt a h t = (t.table ≡ a.table) × (t.history ≡ h)
 

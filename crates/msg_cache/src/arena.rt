@@ -25,7 +25,7 @@ use std::alloc::{AllocError, Global};
 use std::marker::Model;
 use std::snapshot::Snapshot;
 
-// Where the words of an array begin, and how many there are.
+// The place where the words of an array begin, and their number.
 #[derive(Clone, Copy)]
 struct Span {
     base: u32,
@@ -37,7 +37,7 @@ struct Span {
 pub struct Arena {
     table: Table<u8, View, Setting, Rule, Global>,
     spans: Vec<Span>,
-    // the number of the first array of each capacity, and how many there are
+    // the number of the first array of each capacity, and the number of its arrays
     firsts: [usize; 10],
     senders: u32,
     stamps: usize,
@@ -64,7 +64,7 @@ impl Model for Arena {
 impl Arena {
     ghost use Rattle.msg_cache.specs.Ours.{AreOpened};
 
-    /// An arena of classes, with no live array, and its keeper, who stands at their empty history.
+    /// Makes an arena of classes, with no live array, and its keeper at their empty history.
     pub fn open<C: HasOrigin>(
         alloc: Global,
         classes: &C,
@@ -113,7 +113,7 @@ impl Arena {
         &self.table.shared
     }
 
-    // How many arrays there are.
+    // The number of arrays.
     pub(crate) fn arrays(&self) -> usize
         ensures count { result ≡ length self.now.key.capacities }
         ensures few { result < 2 ^ 32 }
@@ -121,7 +121,7 @@ impl Arena {
         self.spans.len()
     }
 
-    /// How many senders there may be.
+    /// The most senders that there may be.
     #[inline(always)]
     pub fn senders(&self) -> u32
         ensures senders { result ≡ self.now.key.senders }
@@ -140,7 +140,7 @@ impl Arena {
         self.spans[array].base as usize
     }
 
-    // How many there are.
+    // The number of an array's words.
     #[inline(always)]
     pub(crate) fn capacity(&self, array: usize) -> u32
         requires { array < length self.now.key.capacities }
@@ -150,7 +150,7 @@ impl Arena {
         self.spans[array].capacity
     }
 
-    // The arrays of a capacity, which lie beside one another.
+    // The arrays of a capacity, whose numbers are consecutive.
     pub(crate) fn group(&self, capacity: u32) -> (usize, usize)
         requires { IsCapacity capacity }
         ensures { IsGroup self.now.key.capacities capacity result.0 result.1 }
@@ -159,15 +159,15 @@ impl Arena {
         (self.firsts[at], self.firsts[at + 1])
     }
 
-    // How many classes there are.
+    // The number of classes.
     pub(crate) fn classes(&self) -> u32
         ensures { result ≡ classes self.now }
     {
         (self.probes - self.stamps) as u32 / 2
     }
 
-    /// How many bytes after the first word the stamp of a class reference lies. The words lie in
-    /// one block.
+    /// The distance in bytes from the first word to the stamp of a class reference. The words lie
+    /// in one block.
     #[inline(always)]
     pub fn stamp_offset(&self, class: ClassRef) -> u64
         requires { class.class < classes self.now }
@@ -176,15 +176,15 @@ impl Arena {
         8 * self.stamp_at(class) as u64
     }
 
-    /// The address of the first word, for a host that loads one of them itself. They lie there as
-    /// long as the arena is there.
+    /// The address of the first word, for a host that loads one of the words itself. The words stay
+    /// in place as long as the arena exists.
     pub fn words(&self) -> *const u64
         ensures { IsNotNull result }
     {
         address_of(&self.table.shared)
     }
 
-    // Where the stamp of a class reference stands.
+    // The place of the stamp of a class reference.
     #[inline(always)]
     pub(crate) fn stamp_at(&self, class: ClassRef) -> usize
         requires { class.class < classes self.now }
@@ -196,7 +196,7 @@ impl Arena {
         self.stamps + class.slot()
     }
 
-    // Where the probe word of a sender stands.
+    // The place of a sender's probe word.
     #[inline(always)]
     pub(crate) fn probe_at(&self, number: u32) -> usize
         requires { number < self.now.key.senders }
@@ -206,8 +206,8 @@ impl Arena {
         self.probes + 8 * number as usize + 7
     }
 
-    // An arena of these arrays, all empty, the seat of its keeper, and the keeper's copy of all
-    // words but the probe words.
+    // Makes an arena of these arrays, all empty, the seat of its keeper, and the keeper's copy of
+    // all words but the probe words.
     pub(crate) fn of(
         alloc: Global,
         origin: &Origin,
@@ -238,8 +238,8 @@ impl Arena {
             })?;
             probes += *capacity as usize;
         }
-        // 8 words before the stamps and 8 before the probe words stay unused: so no line of 64
-        // bytes has words of two of these kinds.
+        // 8 words before the stamps and 8 before the probe words stay unused, so that no line of 64
+        // bytes has words of two of these kinds
         let stamps = probes + 8;
         let probes = stamps + 2 * origin.class_count() as usize;
         let count = probes + 8 * senders as usize;

@@ -9,7 +9,7 @@ use std::marker::Model;
 /// A set of numbers below a limit.
 #[derive(Drop)]
 pub(crate) struct BitSet {
-    // a bit for each number, those of 64 numbers in a word
+    // a bit for each number, 64 numbers to a word
     words: Vec<u64>,
     limit: usize,
 }
@@ -27,7 +27,7 @@ impl Model for BitSet {
 }
 
 impl BitSet {
-    // All numbers below the limit.
+    // Makes the set of all numbers below the limit.
     pub(crate) fn all(alloc: Global, limit: usize) -> Result<BitSet, AllocError>
         requires { limit < 2 ^ 32 }
         ensures { IfOk result (λ s. s ≡ replicate limit true) }
@@ -36,14 +36,14 @@ impl BitSet {
         Ok(BitSet { words, limit })
     }
 
-    // A number that it could have is below this.
+    // A bound above every number that the set can have.
     pub(crate) fn limit(&self) -> usize
         ensures { result ≡ length self.now }
     {
         self.limit
     }
 
-    // A number comes in.
+    // Adds a number.
     pub(crate) fn insert(&mut self, number: usize)
         requires { number < length self.old }
         ensures { self.new ≡ slice_set self.old number true }
@@ -51,7 +51,7 @@ impl BitSet {
         self.words[number / 64] |= 1 << (number % 64);
     }
 
-    // A number goes out.
+    // Removes a number.
     pub(crate) fn remove(&mut self, number: usize)
         requires { number < length self.old }
         ensures { self.new ≡ slice_set self.old number false }
@@ -59,7 +59,7 @@ impl BitSet {
         self.words[number / 64] &= !(1 << (number % 64));
     }
 
-    // The lowest number of the set from one on, as far as its word goes.
+    // The lowest number of the set from one on, in the word of that number.
     pub(crate) fn first_in_word(&self, from: usize) -> Option<usize>
         requires { from < length self.now }
         ensures none { IfNone result (HasNone self.now from (64 * (from / 64 + 1))) }

@@ -1,4 +1,5 @@
-//! A collection: who is out, which arrays nobody holds any more, and their words cleared.
+//! A collection: it finds out which senders are out and which arrays nobody holds any more, and
+//! clears the words of those.
 
 ghost use Rattle.std.specs.Prelude.{◌≡◌, ℕ, ◌+◌, ◌^◌, ◌<◌, ◌≤◌, length, true, IfOk};
 ghost use Rattle.msg_tables.specs.History.{lookup};
@@ -16,7 +17,7 @@ use crate::steps::{Seat, Words, clear_word, load_probe, look_at_rest};
 use std::alloc::{AllocError, Global};
 use std::marker::Brand;
 
-/// Who was out when senders were looked at last.
+/// The senders that were out at the last look.
 #[derive(Drop)]
 pub(crate) struct Outs {
     were: Vec<bool>,
@@ -28,7 +29,7 @@ pub(crate) struct Outs {
 }
 
 impl Outs {
-    // Of so many sender numbers, of which none was given out.
+    // Makes the record of this number of sender numbers, none of which was given out.
     pub(crate) fn all(alloc: Global, senders: usize) -> Result<Outs, AllocError>
         requires senders { senders < 2 ^ 32 }
         ensures senders { IfOk result (λ o. length o.were.items ≡ senders) }
@@ -38,7 +39,7 @@ impl Outs {
         Ok(Outs { were, known: 0 })
     }
 
-    // A sender number is given out.
+    // Notes that a sender number is given out.
     pub(crate) fn know(&mut self, number: u32)
         requires number { number < length self.old.were.items }
         ensures outs { self.new.were.items ≡ self.old.were.items }
@@ -49,7 +50,7 @@ impl Outs {
     }
 }
 
-// One look at each of the first sender numbers. Says who was out.
+// Makes one look at each of the first sender numbers, and returns who was out.
 fn look_at_first(arena: &Arena, seat: &mut Seat, were: &mut Vec<bool>, known: u32)
     requires table { seat.old.table_id ≡ arena.now.table }
     requires keeper { IsKeeper seat.old }
@@ -69,7 +70,7 @@ fn look_at_first(arena: &Arena, seat: &mut Seat, were: &mut Vec<bool>, known: u3
     }
 }
 
-// One look at each sender number. Says who was out.
+// Makes one look at each sender number, and returns who was out.
 fn look_at_senders(arena: &Arena, seat: &mut Seat, outs: &mut Outs)
     requires table { seat.old.table_id ≡ arena.now.table }
     requires keeper { IsKeeper seat.old }
@@ -86,7 +87,7 @@ fn look_at_senders(arena: &Arena, seat: &mut Seat, outs: &mut Outs)
     look_at_rest::<Brand>(arena.shared(), seat, outs.known);
 }
 
-// Clears a word of a free array, where it isn't 0.
+// Clears a word of a free array, if it isn't 0.
 #[tactic(auto, using(crate::proofs::ClearingLemmas::cleared_zero, crate::proofs::ClearingLemmas::cleared_some))]
 fn clear_place(
     shared: &Words,
@@ -137,8 +138,8 @@ fn clear_array(arena: &Arena, seat: &mut Seat, words: &mut Vec<u64>, array: usiz
     }
 }
 
-// A collection, with the keeper's copies of words and standings and its count of each array's
-// entries. It looks at no sender where no array is retired.
+// Makes a collection, with the keeper's copies of words and standings and its count of each array's
+// entries. It looks at no sender if no array is retired.
 pub(crate) fn collect_into(
     arena: &Arena,
     seat: &mut Seat,

@@ -1,4 +1,4 @@
-//! How far senders are in a queue.
+//! The positions of senders in a queue.
 
 ghost use Rattle.std.specs.Prelude.{◌≡◌, ℕ, ◌<◌, ◌≤◌, length, replicate, slice_index, IfOk, if◌then◌else◌};
 ghost use Rattle.msg_cache.specs.Cursors.{AreCut, AreSeenOut, HavePassed, SameBelow, SomeStandsAt};
@@ -6,16 +6,16 @@ ghost use Rattle.msg_cache.specs.Cursors.{AreCut, AreSeenOut, HavePassed, SameBe
 use std::alloc::{AllocError, Global};
 use std::marker::Model;
 
-/// How many places of a queue each sender has passed.
+/// The number of places of a queue that each sender has passed.
 ///
-/// Senders whose numbers were never given out pass together, so that no pass costs by how many
-/// there could be.
+/// Senders whose numbers were never given out pass together, so the cost of a pass doesn't depend
+/// on their number.
 #[derive(Drop)]
 pub(crate) struct Cursors {
-    // of each sender, which counts for those below the number `known`
+    // a cursor for each sender, used for those below the number `known`
     own: Vec<usize>,
     known: usize,
-    // of all others
+    // the cursor of all others
     rest: usize,
 }
 
@@ -31,15 +31,15 @@ impl Model for Cursors {
     ghost invariant = { IsCursors };
 }
 
-// Where a cursor stands after a look, in a queue of this length.
+// The position of a cursor after a look, in a queue of this length.
 fn passed(cursor: usize, is_out: bool, end: usize) -> usize
     ensures { result ≡ (if is_out then end else cursor) }
 {
     if is_out { end } else { cursor }
 }
 
-// Senders that were seen out pass a queue of this length. Answers how many of its places all have
-// passed.
+// Senders that were seen out pass a queue of this length. Returns the number of its places that all
+// have passed.
 fn pass(cursors: &mut Vec<usize>, outs: &Vec<bool>, senders: usize, end: usize) -> usize
     requires senders { (senders ≤ length cursors.old.items) × (senders ≤ length outs.now.items) }
     requires within { (n : ℕ) → n < senders → slice_index cursors.old.items n ≤ end }
@@ -59,7 +59,7 @@ fn pass(cursors: &mut Vec<usize>, outs: &Vec<bool>, senders: usize, end: usize) 
     least
 }
 
-// The queue's front, which all have passed, counts no more.
+// Drops the front of the queue, which all have passed.
 fn cut(cursors: &mut Vec<usize>, senders: usize, by: usize)
     requires senders { senders ≤ length cursors.old.items }
     requires all { (n : ℕ) → n < senders → by ≤ slice_index cursors.old.items n }
@@ -71,7 +71,7 @@ fn cut(cursors: &mut Vec<usize>, senders: usize, by: usize)
     }
 }
 
-// Senders from one number up to another get a cursor of their own.
+// Gives senders from one number up to another a cursor of their own.
 fn part(cursors: &mut Vec<usize>, from: usize, until: usize, at: usize)
     requires until { until ≤ length cursors.old.items }
     ensures before { SameBelow from cursors.old.items cursors.new.items }
@@ -84,7 +84,7 @@ fn part(cursors: &mut Vec<usize>, from: usize, until: usize, at: usize)
 }
 
 impl Cursors {
-    // Of so many senders, who have passed nothing.
+    // Makes the cursors of this number of senders, none of whom has passed anything.
     pub(crate) fn all_first(alloc: Global, senders: usize) -> Result<Cursors, AllocError>
         ensures { IfOk result (λ c. c ≡ replicate senders 0) }
     {
@@ -96,8 +96,8 @@ impl Cursors {
         })
     }
 
-    // Senders that were seen out, as all those from the number `known` on, pass a queue of this
-    // length. Answers how many of its places all have passed.
+    // Senders that were seen out, among them all those from the number `known` on, pass a queue of
+    // this length. Returns the number of its places that all have passed.
     pub(crate) fn pass(&mut self, outs: &Vec<bool>, known: usize, end: usize) -> usize
         requires known { known ≤ length self.old }
         requires outs { length self.old ≤ length outs.now.items }
@@ -116,7 +116,7 @@ impl Cursors {
         pass(&mut self.own, outs, known, end)
     }
 
-    // The queue's front, which all have passed, counts no more.
+    // Drops the front of the queue, which all have passed.
     pub(crate) fn cut(&mut self, by: usize)
         requires all { (n : ℕ) → n < length self.old → by ≤ slice_index self.old n }
         ensures moved { AreCut by (length self.old) self.old self.new }

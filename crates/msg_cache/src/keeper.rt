@@ -18,10 +18,10 @@ ghost use Rattle.msg_cache.specs.Seats.{IsKeeper, keeper_at};
 ghost use Rattle.msg_cache.specs.Uses.{all_free, settled};
 ghost use Rattle.msg_cache.specs.Views.{layout, classes, IsFoundAt, IsNewcomer, IsSenderOf, IsTurnAt};
 
-use crate::answer::{Filled, Report, Way};
+use crate::answer::{Filled, Placement, Report};
 use crate::arena::Arena;
 use crate::collecting::{Outs, collect_into};
-use crate::filling::{count_want, retire_in, way_in_array};
+use crate::filling::{count_want, placement_in_array, retire_in};
 use crate::prober::Prober;
 use crate::standings::Standings;
 use crate::steps::{
@@ -38,7 +38,7 @@ use std::marker::{Brand, Model};
 use std::mem::replace;
 use std::slice::from_ref;
 
-/// The stamp of a class reference that is closed: nothing is noted after so many changes.
+/// The stamp of a class reference that is closed. Nothing is noted after that many changes.
 pub const CLOSED: u64 = 18_446_744_073_709_551_615;
 
 /// The keeper, with its own copy of all words but the probe words.
@@ -47,15 +47,15 @@ pub struct Keeper {
     pub(crate) seat: Seat,
     words: Vec<u64>,
     standings: Standings,
-    // how many entries each array has
+    // the number of entries of each array
     pub(crate) occupied: Vec<u32>,
-    // the capacity that the next array of each class reference without one has, or 0 for the least
+    // for each class reference without an array the capacity of its next, or 0 for the least
     pub(crate) remembered: Vec<u32>,
     given: Vec<bool>,
     outs: Outs,
     count: u64,
     lent: bool,
-    // the arrays that were installed before
+    // marks the arrays that were installed before
     pub(crate) used: Vec<bool>,
     report: Report,
     pub ghost keeper: { seat.me ≡ kept (keeper_of seat.me.0) },
@@ -70,8 +70,8 @@ pub struct Keeper {
     pub ghost counts: { AreCounts report },
 }
 
-// What a keeper keeps of arrays: a part of it that is made by itself, as is the other, since where
-// memory is wanted each function gives back what it has made.
+// The keeper's data about arrays. It is made on its own, as is the other part, because a function
+// that lacks memory gives back what it has made.
 #[derive(Drop)]
 struct ArrayCopies {
     standings: Standings,
@@ -80,7 +80,7 @@ struct ArrayCopies {
 }
 
 impl ArrayCopies {
-    // Of so many arrays, which are free.
+    // Makes the data of this number of arrays, which are free.
     fn blank(alloc: Global, arrays: usize, senders: usize) -> Result<ArrayCopies, AllocError>
         requires arrays { arrays < 2 ^ 32 }
         requires senders { senders ≤ MOST_SENDERS }
@@ -99,7 +99,7 @@ impl ArrayCopies {
     }
 }
 
-// The capacity that each class reference comes to, and which senders are out.
+// The capacity that each class reference reaches, and which senders are out.
 #[derive(Drop)]
 struct Copies {
     remembered: Vec<u32>,
@@ -108,7 +108,7 @@ struct Copies {
 }
 
 impl Copies {
-    // Of so many classes and senders.
+    // Makes the data of this number of classes and senders.
     fn blank(alloc: Global, classes: usize, senders: usize) -> Result<Copies, AllocError>
         requires classes { classes < 2 ^ 32 }
         requires senders { senders < 2 ^ 32 }
@@ -152,9 +152,9 @@ impl Model for Turn {
 }
 
 impl Keeper {
-    ghost use Rattle.msg_cache.specs.Ours.{AffectedAreClosed, AffectedAreFlushed, AllAffectedAreClosed, AllAffectedAreFlushed, CanUseFor, CannotBeGiven, ChangesIf, Chills, ClosesSome, CommitsClosed, CountsFillWith, CountsIf, FillsPlace, FillsWith, GrowsInto, IsClosed, IsCold, IsOf, RemembersCapacity, StayCold, closed, is_closed, opened, view, way_for};
+    ghost use Rattle.msg_cache.specs.Ours.{AffectedAreClosed, AffectedAreFlushed, AllAffectedAreClosed, AllAffectedAreFlushed, CanUseFor, CannotBeGiven, ChangesIf, Chills, ClosesSome, CommitsClosed, CountsFillWith, CountsIf, FillsPlace, FillsWith, GrowsInto, IsClosed, IsCold, IsOf, RemembersCapacity, StayCold, closed, is_closed, opened, view, placement_for};
 
-    // The keeper of an arena that was just made, with these words, which are a copy of the arena's.
+    // Makes the keeper of a new arena. The words are a copy of the arena's.
     pub(crate) fn first(
         alloc: Global,
         seat: Seat,
@@ -196,10 +196,10 @@ impl Keeper {
     }
 
     // What an entry of a class reference needs.
-    fn way(&self, arena: &Arena, class: ClassRef, selector: Selector) -> Way
+    fn placement(&self, arena: &Arena, class: ClassRef, selector: Selector) -> Placement
         requires arena { IsOf arena.now self.now }
         requires class { class.class < classes arena.now }
-        ensures way { result ≡ way_for arena.now self.now class selector }
+        ensures placement { result ≡ placement_for arena.now self.now class selector }
         ensures uses { OnUse result (CanUseFor arena.now self.now class selector) }
         ensures takes { OnTake result IsCapacity }
     {
@@ -207,12 +207,12 @@ impl Keeper {
         let header = self.words[at];
         if header == 0 {
             let remembered = self.remembered[at - 1];
-            return Way::Take(if remembered == 0 { 4 } else { remembered });
+            return Placement::Take(if remembered == 0 { 4 } else { remembered });
         }
         let array = (header - 1) as usize;
         let base = arena.base(array);
         let capacity = arena.capacity(array) as usize;
-        way_in_array(
+        placement_in_array(
             &self.words[base..base + capacity],
             self.occupied[array],
             selector,
@@ -231,7 +231,7 @@ impl Keeper {
         self.standings.first_free(from, until)
     }
 
-    // Fill.
+    // Makes a Fill.
     fn put(
         &mut self,
         arena: &Arena,
@@ -260,7 +260,7 @@ impl Keeper {
         self.report.fills = self.report.fills.saturating_add(1);
     }
 
-    // Install.
+    // Makes an Install.
     fn install(&mut self, arena: &Arena, class: ClassRef, array: usize)
         requires arena { IsOf arena.now self.old }
         requires class { class.class < classes arena.now }
@@ -288,7 +288,7 @@ impl Keeper {
         self.report.growths = self.report.growths.saturating_add(1);
     }
 
-    // Install, then Fill.
+    // Makes an Install, and then a Fill.
     fn grow(
         &mut self,
         arena: &Arena,
@@ -312,9 +312,9 @@ impl Keeper {
         self.put(arena, class, array, place, selector, implementation);
     }
 
-    /// Looks at each sender, and makes the arrays free that nobody holds any more. Answers how
-    /// many. It loads as many words as there are numbers up to the highest that was ever given out,
-    /// and none where no array is retired.
+    /// Looks at each sender, and makes the arrays free that nobody holds any more. Returns their
+    /// number. It loads a word for each sender number up to the highest that was ever given out. If
+    /// no array is retired it loads none.
     pub fn collect(&mut self, arena: &Arena) -> u32
         requires arena { IsOf arena.now self.old }
         ensures arena { IsOf arena.now self.new }
@@ -336,7 +336,7 @@ impl Keeper {
         freed
     }
 
-    /// Caches what was found for a selector in a class reference.
+    /// Caches the implementation that was found for a selector in a class reference.
     pub fn fill(
         &mut self,
         arena: &Arena,
@@ -352,13 +352,13 @@ impl Keeper {
         ensures fills { FillsWith arena.now class selector implementation self.old self.new result }
         ensures report { CountsFillWith arena.now class selector result self.old self.new }
     {
-        match self.way(arena, class, selector) {
-            Way::Present => Filled::Present,
-            Way::Use(array, place) => {
+        match self.placement(arena, class, selector) {
+            Placement::Present => Filled::Present,
+            Placement::Use(array, place) => {
                 self.put(arena, class, array, place, selector, implementation);
                 Filled::Used
             }
-            Way::Take(capacity) => {
+            Placement::Take(capacity) => {
                 if let Some(array) = self.free_array(arena, capacity) {
                     self.grow(arena, class, array, selector, implementation);
                     return Filled::Grown;
@@ -374,7 +374,7 @@ impl Keeper {
         }
     }
 
-    /// How many changes were made.
+    /// The number of times that changes were made.
     #[inline]
     pub fn count(&self) -> u64
         ensures { result ≡ size (view self.now).history }
@@ -390,7 +390,7 @@ impl Keeper {
         number < self.given.len() && self.given[number]
     }
 
-    /// What was done so far.
+    /// The counts of what was done so far.
     pub fn report(&self) -> Report
         ensures value { result ≡ self.now.report }
         ensures counts { AreCounts result }
@@ -398,7 +398,7 @@ impl Keeper {
         self.report
     }
 
-    /// Takes the live array of a class reference away, and says whether there was one.
+    /// Takes the live array of a class reference away, and returns whether there was one.
     pub fn flush(&mut self, arena: &Arena, class: ClassRef) -> bool
         requires arena { IsOf arena.now self.old }
         requires class { class.class < classes arena.now }
@@ -426,8 +426,8 @@ impl Keeper {
         true
     }
 
-    // Stores the stamp of a class reference: of no less than the number of the last change that
-    // affects it.
+    // Stores the stamp of a class reference. It may not be below the number of the last change that
+    // affects the class reference.
     fn stamp(&mut self, arena: &Arena, class: ClassRef, count: u64)
         requires arena { IsOf arena.now self.old }
         requires class { class.class < classes arena.now }
@@ -443,7 +443,7 @@ impl Keeper {
         self.words[place] = count;
     }
 
-    /// Closes a class reference, so that none of its notes holds until it is opened, and says
+    /// Closes a class reference, so that none of its notes holds until it is opened. Returns
     /// whether it was open.
     pub fn close(&mut self, arena: &Arena, class: ClassRef) -> bool
         requires arena { IsOf arena.now self.old }
@@ -455,7 +455,7 @@ impl Keeper {
         ensures view { view self.new ≡ closed (layout arena.now) class (view self.old) }
         ensures closed { IsClosed arena.now self.new class }
     {
-        // no count of changes is above that of a closed one
+        // the number of changes is at most the stamp of a closed class reference
         let _count = self.count;
         let place = arena.stamp_at(class);
         let stamp = self.words[place];
@@ -466,8 +466,8 @@ impl Keeper {
         true
     }
 
-    /// Closes a class reference and takes its live array away: so a change may be made that affects
-    /// it.
+    /// Closes a class reference and takes its live array away, so that a change that affects it may
+    /// be made.
     pub fn chill(&mut self, arena: &Arena, class: ClassRef)
         requires arena { IsOf arena.now self.old }
         requires class { class.class < classes arena.now }
@@ -483,8 +483,8 @@ impl Keeper {
         self.flush(arena, class);
     }
 
-    /// Opens a class reference, so that what is noted of it from now on holds until it is closed,
-    /// and says whether it was closed.
+    /// Opens a class reference, so that what is noted of it from now on holds until it is closed.
+    /// Returns whether it was closed.
     #[tactic(auto, using(crate::proofs::PastLemmas::reached_by))]
     pub fn open(&mut self, arena: &Arena, class: ClassRef) -> bool
         requires arena { IsOf arena.now self.old }
@@ -522,9 +522,9 @@ impl Keeper {
         }
     }
 
-    /// Adds a change to the history, and answers how many times changes were made. Each class
-    /// reference that is open is closed before. Who has closed those that the change affects calls
-    /// `commit_closed`, which closes no other.
+    /// Adds a change to the history, and returns how many times changes were made. It first closes
+    /// each class reference that is open. A caller that has closed those that the change affects
+    /// calls `commit_closed`, which closes no other.
     pub fn commit(&mut self, arena: &Arena, turn: &mut Turn, change: &Change) -> u64
         requires arena { IsOf arena.now self.old }
         requires turn { turn.old.table ≡ arena.now.table }
@@ -543,7 +543,7 @@ impl Keeper {
         self.commit_closed(arena, turn, change)
     }
 
-    /// The same, where each class reference that the change affects is closed. No other is.
+    /// Does the same if each class reference that the change affects is closed. It closes no other.
     pub fn commit_closed(&mut self, arena: &Arena, turn: &mut Turn, change: &Change) -> u64
         requires arena { IsOf arena.now self.old }
         requires turn { turn.old.table ≡ arena.now.table }
@@ -562,9 +562,9 @@ impl Keeper {
         self.commit_all(arena, turn, &from_ref(change))
     }
 
-    /// Adds changes to the history that are made as one, where each class reference that one of
-    /// them affects is closed, and answers how many times changes were made. The count is stored
-    /// once: no sender sees some of them alone.
+    /// Adds changes to the history that are made as one, and returns how many times changes were
+    /// made. Each class reference that one of them affects is closed. The count is stored once, so
+    /// no sender sees only some of the changes.
     pub fn commit_all<L: ChangeList>(&mut self, arena: &Arena, turn: &mut Turn, changes: &L) -> u64
         requires arena { IsOf arena.now self.old }
         requires turn { turn.old.table ≡ arena.now.table }
@@ -593,7 +593,7 @@ impl Keeper {
         count
     }
 
-    /// Changes nothing, and shows that the turn's history is the keeper's.
+    /// Changes nothing, and proves that the turn's history is the keeper's.
     pub fn face(&mut self, arena: &Arena, turn: &mut Turn)
         requires arena { IsOf arena.now self.old }
         requires turn { turn.old.table ≡ arena.now.table }
@@ -613,7 +613,7 @@ impl Keeper {
         self.lent = true;
     }
 
-    /// The right to change the history: once, and then none.
+    /// Returns the right to change the history the first time, and nothing later.
     pub fn turn(&mut self, arena: &Arena) -> Option<Turn>
         requires arena { IsOf arena.now self.old }
         ensures arena { IsOf arena.now self.new }
@@ -632,7 +632,7 @@ impl Keeper {
         Some(Turn { badge })
     }
 
-    /// A sender of this number, who has seen all that the keeper has.
+    /// Gives out a sender with this number. It has seen all that the keeper has.
     pub fn give_out(&mut self, arena: &Arena, number: u32) -> Option<Prober>
         requires arena { IsOf arena.now self.old }
         ensures arena { IsOf arena.now self.new }
@@ -653,7 +653,7 @@ impl Keeper {
         Some(Prober::of(seat, number, arena.probe_at(number)))
     }
 
-    /// A sender was asked for, and none is given out.
+    /// Counts that a sender was asked for and none is given out.
     pub fn refuse(&mut self, arena: &Arena)
         requires arena { IsOf arena.now self.old }
         ensures arena { IsOf arena.now self.new }
@@ -682,8 +682,8 @@ impl Keeper {
         self.given[place] = false;
     }
 
-    /// A sender has then seen all that the keeper has, which begins with what it had seen. It has
-    /// the number that it had, and its last probe is forgotten.
+    /// Brings a sender up to date: it has then seen all that the keeper has, which begins with what
+    /// it had seen. It keeps its number, and its last probe is forgotten.
     pub fn renew(&mut self, arena: &Arena, prober: &mut Prober)
         requires arena { IsOf arena.now self.old }
         requires prober { IsSenderOf arena.now prober.old }

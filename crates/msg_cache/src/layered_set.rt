@@ -1,5 +1,5 @@
-//! A set of numbers in layers: over it stands which of its words have some, and over that the same
-//! again.
+//! A set of numbers in layers: a second set says which words of the first have some, and a third
+//! says the same of the second.
 
 ghost use Rattle.std.specs.Prelude.{◌≡◌, ◌/◌, ◌+◌, ◌*◌, ◌^◌, ◌<◌, ◌≤◌, length, replicate, slice_set, true, false, IsTrue, IfOk, IfSome, IfNone};
 ghost use Rattle.msg_cache.specs.BitSet.{HasNone, HasSomeInWord, IsFirst};
@@ -9,9 +9,9 @@ use crate::bit_set::BitSet;
 use std::alloc::{AllocError, Global};
 use std::marker::Model;
 
-/// A set of numbers below a limit. To find its lowest from one on takes at most five loads, as long
-/// as there are no more than 262,144: so many arrays no arena has. A number comes in by three
-/// words, and goes out by as many.
+/// A set of numbers below a limit. Finding its lowest number from one on takes at most five loads
+/// if the limit is at most 262,144, which no arena's number of arrays exceeds. Adding a number
+/// writes three words, and so does removing one.
 #[derive(Drop)]
 pub(crate) struct LayeredSet {
     numbers: BitSet,
@@ -33,7 +33,7 @@ impl Model for LayeredSet {
     ghost invariant = { IsLayered };
 }
 
-// How many words hold so many bits.
+// The number of words for this number of bits.
 fn words_of(bits: usize) -> usize
     requires { bits < 2 ^ 32 }
     ensures { (bits ≤ 64 * result) × (64 * result < bits + 64) }
@@ -41,7 +41,7 @@ fn words_of(bits: usize) -> usize
     (bits + 63) / 64
 }
 
-// A number goes out. Answers whether its word has none any more.
+// Removes a number, and returns whether its word is then empty.
 fn take_out(set: &mut BitSet, number: usize) -> bool
     requires { number < length set.old }
     ensures set { set.new ≡ slice_set set.old number false }
@@ -70,7 +70,7 @@ fn first_word(words: &BitSet, blocks: &BitSet, from: usize) -> Option<usize>
 }
 
 impl LayeredSet {
-    // All numbers below the limit.
+    // Makes the set of all numbers below the limit.
     #[tactic(auto, using(crate::proofs::LayeredLemmas::summary_all))]
     pub(crate) fn all(alloc: Global, limit: usize) -> Result<LayeredSet, AllocError>
         requires { limit < 2 ^ 32 }
@@ -84,7 +84,7 @@ impl LayeredSet {
         })
     }
 
-    // A number comes in.
+    // Adds a number.
     pub(crate) fn insert(&mut self, number: usize)
         requires { number < length self.old }
         ensures { self.new ≡ slice_set self.old number true }
@@ -94,7 +94,7 @@ impl LayeredSet {
         self.blocks.insert(number / 64 / 64);
     }
 
-    // A number goes out.
+    // Removes a number.
     #[tactic(auto, using(crate::proofs::LayeredLemmas::summary_left, crate::proofs::LayeredLemmas::summary_last))]
     pub(crate) fn remove(&mut self, number: usize)
         requires { number < length self.old }

@@ -1,4 +1,4 @@
-//! What each kind of step tells the seat that makes it.
+//! What each kind of step means to the seat that makes it.
 
 ghost use Rattle.std.specs.Prelude.{ℕ};
 ghost use Rattle.msg_tables.specs.History.{lookup};
@@ -12,7 +12,7 @@ use std::marker::{Brand, PhantomData};
 
 // ---- a sender's
 
-/// What a header load is for. Each call picks it.
+/// The purpose of a header load. Each call chooses it.
 pub(crate) trait Asks {
     ghost use Rattle.msg_names.specs.declared.value.ClassRef.{ClassRef};
 
@@ -75,7 +75,7 @@ impl Play<u8, View> for Leave {
 
 // ---- the keeper's
 
-/// What a table was made for, and what a step is about. Each call picks it.
+/// The setting of a table, and the subject of a step. Each call chooses it.
 pub(crate) trait About {
     ghost use Rattle.std.specs.Prelude.{List};
     ghost use Rattle.msg_tables.specs.declared.change.Change.{Change};
@@ -98,7 +98,7 @@ impl About for Brand {
     ghost number = { 0 };
 }
 
-/// A step that also tells what the rule says of the keeper's new view.
+/// A step that also gives what the rule says of the keeper's new view.
 pub(crate) struct Tidied<M, Q> {
     of: PhantomData<(M, Q)>,
 }
@@ -156,7 +156,7 @@ impl Play<u8, View> for Witness {
     ghost then = { Witnesses };
 }
 
-/// Which sender number is given out, and which stamps its sender says that it has loaded.
+/// The sender number that is given out, and the stamps that its sender says it has loaded.
 pub(crate) trait Gives {
     ghost use Rattle.std.specs.Prelude.{List};
     ghost use Rattle.msg_names.specs.declared.value.ClassRef.{ClassRef};

@@ -1,4 +1,4 @@
-//! Senders, who read caches without a lock.
+//! Senders, which read caches without a lock.
 
 ghost use Rattle.std.specs.Prelude.{◌≡◌, ◌≢◌, ◌<◌, ◌+◌, ◌≤◌, [], length, IfSome, IfNone};
 ghost use Rattle.msg_tables.specs.History.{BeginsWith, lookup};
@@ -24,14 +24,14 @@ use std::marker::{Brand, Model};
 use std::mem::replace;
 use std::snapshot::Snapshot;
 
-/// What is called between the loads of a probe.
+/// A callback between the loads of a probe.
 pub trait Pause {
-    /// Is called before each load of a header or bucket word, with the number of such loads made
-    /// before in this probe.
+    /// It is called before each load of a header or bucket word, with the number of such loads that
+    /// this probe has made before.
     fn at(&mut self, loads: u32);
 }
 
-// Nothing is called.
+// The callback that does nothing.
 #[derive(Clone, Copy)]
 pub(crate) struct NoPause;
 
@@ -40,8 +40,8 @@ impl Pause for NoPause {
     fn at(&mut self, _loads: u32) {}
 }
 
-// Searches the live array of a class reference, with the sender in.
-// Answers with the number of bucket words that were loaded.
+// Searches the live array of a class reference while the sender is in. Returns also the number of
+// bucket words that were loaded.
 pub(crate) fn search<P: Pause>(
     arena: &Arena,
     seat: &mut Seat,
@@ -71,8 +71,8 @@ pub(crate) fn search<P: Pause>(
     let base = arena.base(array);
     let capacity = arena.capacity(array);
     let mut place = first_place(sel, capacity);
-    // Most probes end at the first word, so nothing that further words need is reckoned before it
-    // is looked at.
+    // Most probes end at the first word, so nothing that only further words need is computed before
+    // that is looked at.
     pause.at(1);
     let mut word = load_bucket(shared, seat, array, base, place);
     let mut loads = 1;
@@ -96,7 +96,7 @@ pub(crate) fn search<P: Pause>(
 #[derive(Drop)]
 pub struct Prober {
     badge: Badge<View>,
-    // where the probe word stands
+    // the place of the probe word
     place: usize,
     number: u32,
     loads: u32,
@@ -120,7 +120,7 @@ impl Model for Prober {
 }
 
 impl Prober {
-    // A sender that probed nothing.
+    // Makes a sender that has probed nothing.
     pub(crate) fn of(seat: Seat, number: u32, place: usize) -> Prober
         requires sender { IsSender seat }
         requires number { (sender_at seat).number ≡ number }
@@ -136,7 +136,7 @@ impl Prober {
         }
     }
 
-    // Is joined to the keeper's seat, and split off again with the same number, at the keeper's
+    // Joins the seat to the keeper's, and splits it off again with the same number, at the keeper's
     // history. It still says which stamps it has loaded.
     pub(crate) fn renew(&mut self, words: &Words, keeper: &mut Seat)
         requires own { self.old.table ≡ words.now.table_id }
@@ -168,8 +168,8 @@ impl Prober {
         self.badge.into_seat()
     }
 
-    /// The implementation that the class reference's cache has for the selector, if it has one. No
-    /// lock is taken.
+    /// Returns the implementation that the class reference's cache has for the selector, if it has
+    /// one. It takes no lock.
     pub fn probe(&mut self, arena: &Arena, class: ClassRef, sel: Selector) -> Option<ImpRef>
         requires arena { IsSenderOf arena.now self.old }
         requires class { class.class < classes arena.now }
@@ -181,7 +181,7 @@ impl Prober {
         self.probe_paused(arena, class, sel, &mut NoPause)
     }
 
-    /// The same, with a call before each load of a header or bucket word.
+    /// Does the same, with a call before each load of a header or bucket word.
     pub fn probe_paused<P: Pause>(
         &mut self,
         arena: &Arena,
@@ -207,7 +207,7 @@ impl Prober {
         found
     }
 
-    /// How many changes were made.
+    /// The number of times that changes were made.
     pub fn published(&mut self, arena: &Arena) -> u64
         requires arena { IsSenderOf arena.now self.old }
         ensures arena { IsSenderOf arena.now self.new }
@@ -226,8 +226,8 @@ impl Prober {
         count
     }
 
-    /// The stamp of a class reference: no change after so many has affected it. The sender has then
-    /// seen all changes.
+    /// The stamp of a class reference: no change after that many has affected it. The sender has
+    /// then seen all changes.
     #[inline]
     pub fn stamp(&mut self, arena: &Arena, class: ClassRef) -> u64
         requires arena { IsSenderOf arena.now self.old }
@@ -246,7 +246,7 @@ impl Prober {
         count
     }
 
-    /// How many bucket words the last probe loaded, 0 before the first.
+    /// The number of bucket words that the last probe loaded, or 0 before the first probe.
     pub fn last_loads(&self) -> u32
         ensures { result ≡ length self.now.sender.last.reads }
     {

@@ -13,20 +13,20 @@ use std::alloc::{AllocError, Global};
 use std::collections::VecDeque;
 use std::marker::Model;
 
-/// Which arrays are free, and whom each retired one awaits.
+/// Which arrays are free, and which senders each retired one awaits.
 ///
 /// Retired arrays wait in a queue, in which each sender has a cursor. A sender that is seen out
-/// passes the whole queue: nothing that was retired before awaits it any more. What all senders
-/// have passed is free.
+/// passes the whole queue: nothing that was retired before awaits it any more. An array that all
+/// senders have passed is free.
 #[derive(Drop)]
 pub(crate) struct Standings {
     // which arrays are free
     free: LayeredSet,
     // the retired arrays, oldest first
     queue: VecDeque<usize>,
-    // how many of them, from the oldest on, are free and are to be taken out
+    // the number of arrays, from the oldest on, that are free and are to be taken out
     ready: usize,
-    // how many of the others, from the oldest on, each sender has passed
+    // the number of the others, from the oldest on, that each sender has passed
     cursors: Cursors,
     senders: usize,
 }
@@ -44,7 +44,7 @@ impl Model for Standings {
 }
 
 impl Standings {
-    // So many arrays, which are free, and so many senders.
+    // Makes the standings of free arrays, for a number of senders.
     pub(crate) fn all_free(
         alloc: Global,
         arrays: usize,
@@ -63,7 +63,7 @@ impl Standings {
         })
     }
 
-    // A free array becomes the live one of a class reference.
+    // Makes a free array the live one of a class reference.
     pub(crate) fn install(&mut self, array: usize)
         requires array { array < length self.old.uses }
         requires free { use_at self.old.uses array ≡ free }
@@ -73,7 +73,7 @@ impl Standings {
         self.free.remove(array);
     }
 
-    // A live array is taken from its class reference, and awaits all senders.
+    // Takes a live array from its class reference. It then awaits all senders.
     pub(crate) fn retire(&mut self, array: usize)
         requires array { array < length self.old.uses }
         requires live { use_at self.old.uses array ≡ live }
@@ -83,8 +83,8 @@ impl Standings {
         self.queue.push_back_reserved(array);
     }
 
-    // These senders were seen out, all those from the number `known` on among them. What awaits
-    // nobody then is free, and ready to be taken out. Answers how many.
+    // Notes that these senders were seen out, among them all those from the number `known` on.
+    // Arrays that then await nobody are free, and ready to be taken out. Returns their number.
     pub(crate) fn see_out(&mut self, outs: &Vec<bool>, known: usize) -> u32
         requires senders { 0 < self.old.senders }
         requires outs { length outs.now.items ≡ self.old.senders }
@@ -104,7 +104,7 @@ impl Standings {
         passed as u32
     }
 
-    // The oldest array that is ready is taken out of the queue.
+    // Takes the oldest array that is ready out of the queue.
     pub(crate) fn take_ready(&mut self) -> usize
         requires { 0 < length self.old.ready }
         ensures taken { self.old.ready ≡ result ∷ self.new.ready }

@@ -1,4 +1,4 @@
-//! Every step that is made on the table: each is one call of it. Beside each stands the event that
+//! Every step on the table. Each is one call of the table. Its comment begins with the event that
 //! it is, if it is one.
 
 ghost use Rattle.std.specs.Prelude.{◌≡◌, ◌≢◌, ℕ, suc, ◌+◌, ◌-◌, ◌^◌, ◌<◌, ◌≤◌, [], None, length, slice_index, false};
@@ -36,7 +36,7 @@ pub(crate) type Words = Shared<u8, View, Setting, Rule>;
 
 pub(crate) type Seat = atomic_table::Seat<u8, View>;
 
-// Where the header word of a class reference stands.
+// The place of the header word of a class reference.
 #[inline(always)]
 pub(crate) fn header_at(class: ClassRef) -> usize
     ensures { result ≡ header_at class }
@@ -44,8 +44,8 @@ pub(crate) fn header_at(class: ClassRef) -> usize
     1 + class.slot()
 }
 
-// Header: the header word of a class reference is loaded, to seek a selector in the array that it
-// names.
+// Header: the header word of a class reference is loaded, to look for a selector in the array that
+// it names.
 pub(crate) fn load_header<Q: Asks>(
     words: &Words,
     seat: &mut Seat,
@@ -216,8 +216,8 @@ pub(crate) fn store_array<Q: About>(words: &Words, seat: &mut Seat, class: Class
     words.store::<Tidied<Install, Q>>(seat, header_at(class), array as u64 + 1);
 }
 
-// No event: a stamp is stored, of no less than the number of the last change that affects its class
-// reference.
+// No event: a stamp is stored, which is not below the number of the last change that affects its
+// class reference.
 pub(crate) fn store_stamp<Q: About>(
     words: &Words,
     seat: &mut Seat,
@@ -262,8 +262,8 @@ pub(crate) fn store_count<Q: About, L: ChangeList>(
     words.store::<Tidied<Commit<Q>, Q>>(seat, 0, count);
 }
 
-// Look: a sender's probe word is loaded. Answers whether the sender was out, and is awaited no
-// more.
+// Look: a sender's probe word is loaded. Returns whether the sender was out, and is no longer
+// awaited.
 pub(crate) fn load_probe<Q: About>(words: &Words, seat: &mut Seat, word: usize, number: u32) -> bool
     requires table { CanReach words.now.table_id seat.old word }
     requires about { (Q.key ≡ words.now.key) × (Q.number ≡ number) }
@@ -276,8 +276,9 @@ pub(crate) fn load_probe<Q: About>(words: &Words, seat: &mut Seat, word: usize, 
     words.load::<Tidied<Look<Q>, Q>>(seat, word) == 0
 }
 
-// Look, once for each sender number from one on, none of which is given out: that its sender is out
-// needs no load of its probe word. They are one step, by a load of the count of changes.
+// Look, once for each sender number from one on, none of which is given out. Their senders are out,
+// so their probe words need no load. All these looks are one step, by a load of the count of
+// changes.
 pub(crate) fn look_at_rest<Q: About>(words: &Words, seat: &mut Seat, _number: u32)
     requires table { CanReach words.now.table_id seat.old 0 }
     requires about { (Q.key ≡ words.now.key) × (Q.number ≡ _number) }
@@ -291,7 +292,7 @@ pub(crate) fn look_at_rest<Q: About>(words: &Words, seat: &mut Seat, _number: u3
     words.load::<Tidied<LookAtRest<Q>, Q>>(seat, 0);
 }
 
-// No event: the keeper loads the count of changes, and learns that what a joined seat knew is a
+// No event: the keeper loads the count of changes. It learns that what a joined seat knew is a
 // beginning of the history.
 pub(crate) fn witness<Q: About>(words: &Words, seat: &mut Seat)
     requires table { CanReach words.now.table_id seat.old 0 }
@@ -320,7 +321,8 @@ pub(crate) fn split_sender<Q: Gives>(words: &Words, seat: &mut Seat, number: u32
     words.split_seat::<Give<Q>>(seat)
 }
 
-// The same, of a sender that was given out before: it still says which stamps it had loaded.
+// No event: the same, for a sender that was given out before. It still says which stamps it had
+// loaded.
 pub(crate) fn split_again<Q: Gives>(
     words: &Words,
     seat: &mut Seat,

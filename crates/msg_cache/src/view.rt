@@ -1,4 +1,4 @@
-//! What seats know. No value of these types is made: they are for contracts alone.
+//! The knowledge of seats. No value of these types is ever made: they are only for contracts.
 
 use msg_model::{Standing, Whereabouts};
 use msg_names::ClassRef;
@@ -6,7 +6,7 @@ use msg_tables::{Change, Origin};
 use std::collections::LinkedList;
 use std::marker::Model;
 
-/// A history: contracts see it as that of the class tables.
+/// A history, in contracts that of the class tables.
 pub struct Past {
     origin: Origin,
     changes: LinkedList<LinkedList<Change>>,
@@ -20,8 +20,8 @@ impl Model for Past {
     ghost view = { λ p. record { origin = p.origin; changes = p.changes } };
 }
 
-/// The last probe: what was sought, the array that the header word named, and the words then read,
-/// each with its place in the table.
+/// The last probe: what was looked for, the array that the header word named, and the words that
+/// were then read, each with its place in the table.
 pub struct Record {
     pub class: ClassRef,
     pub sel: u64,
@@ -29,9 +29,9 @@ pub struct Record {
     pub reads: LinkedList<(u64, u64)>,
 }
 
-/// What a sender's seat knows: its number, what it has seen of the history, where it is, how many
-/// header loads it made, how often it loaded the count of changes, the stamps that it loaded, the
-/// last one first, each with its class reference, and the last probe.
+/// What a sender's seat knows: its number, what it has seen of the history, where it is, the number
+/// of its header loads, the number of its loads of the count of changes, and the last probe. It
+/// also knows the stamps that it loaded, the last one first, each with its class reference.
 pub struct SenderView {
     pub number: u64,
     pub front: Past,
@@ -42,7 +42,7 @@ pub struct SenderView {
     pub last: Record,
 }
 
-/// Where the right to change the history is.
+/// The place of the right to change the history.
 pub enum TurnAt {
     Never,
     Away,
@@ -50,10 +50,10 @@ pub enum TurnAt {
 }
 
 /// What the keeper's seat knows: the history, a copy of all words but the probe words, what each
-/// array is for, which sender numbers are given out, each number that was ever given out, the last
-/// one first, with how many changes there were then, where the turn is, what a joined sender had
-/// seen, each word that was stored, with its place in the table, and each sender number that was
-/// looked at.
+/// array is for, which sender numbers are given out, where the turn is, and what a joined sender
+/// had seen. It also knows each number that was ever given out, the last one first, with the number
+/// of changes at that time. Finally it knows each word that was stored, with its place in the
+/// table, and each sender number that was looked at.
 pub struct KeeperView {
     pub history: Past,
     pub words: LinkedList<u64>,

@@ -7,23 +7,23 @@ use Rattle.std.proofs.Crossing.{crosses}
 use Rattle.msg_cache.proofs.CrossingLemmas.{Arena-sync, Prober-send}
 use Rattle.msg_runtime.proofs.CrossingLemmas.{Runtime-send}
 use Rattle.msg_dispatch.specs.declared.name.ArenaName.{Ghosts}
-use Rattle.msg_dispatch.specs.contracts.desk.Desk as Desk
+use Rattle.msg_dispatch.specs.contracts.locked_runtime.LockedRuntime as LockedRuntime
 use Rattle.msg_dispatch.specs.contracts.dispatcher.Dispatcher as Dispatcher
-use Rattle.msg_dispatch.specs.contracts.recalling.Recalling as Recalling
+use Rattle.msg_dispatch.specs.contracts.caching_sender.CachingSender as CachingSender
 use Rattle.msg_dispatch.specs.contracts.sender.Sender as Sender
 
 module _ (N : RattleType) (g : Ghosts N.Denot) where
   abbrev Dispatcher-row : RattleType
   Dispatcher-row = (Dispatcher.the_field N g).row
 
-  Desk-send : IsSend (Desk.the_row N g)
-  Desk-send = search (Runtime-send, sendable, crosses) depth 20
+  LockedRuntime-send : IsSend (LockedRuntime.the_row N g)
+  LockedRuntime-send = search (Runtime-send, sendable, crosses) depth 20
 
   Dispatcher-sync : IsSync Dispatcher-row
-  Dispatcher-sync = let d = Desk-send in search (Arena-sync, sendable, crosses) depth 20
+  Dispatcher-sync = let d = LockedRuntime-send in search (Arena-sync, sendable, crosses) depth 20
 
   pub Sender-send : (κ : NamedLft) → IsSend (Sender.the_row κ N g)
   Sender-send κ = let d = Dispatcher-sync in search (Prober-send, sendable, crosses) depth 20
 
-  pub Recalling-send : (κ : NamedLft) → IsSend (Recalling.the_row κ N g)
-  Recalling-send κ = let s = Sender-send κ in search (sendable, crosses) depth 20
+  pub CachingSender-send : (κ : NamedLft) → IsSend (CachingSender.the_row κ N g)
+  CachingSender-send κ = let s = Sender-send κ in search (sendable, crosses) depth 20

@@ -19,7 +19,7 @@ found_unlocked v w was is c s i same (since, first, found) = (since, first, at (
     at None t = tt
     at (Some n) t = let e : Some (imp_number i) ≡ Some n = t.0 in (cc, t.1, same, t.2)
 
--- where nothing was found without it, nothing was noted
+-- if nothing was found without it, nothing was noted
 pub found_locked : (v u w : SenderView) (was mid is : Notes) (c : ClassRef) (s : Selector) (i : ImpRef) → w.seen.stamps ≡ u.seen.stamps → FindsRecalled was mid c (selector_number s) v.seen u.seen None → FindsNoted v w was is c s i
 found_locked v u w was mid is c s i same (since, (more, first), found) = (since, (more, same ∙ first), at (recalled was since (slot_of c) (selector_number s)) found)
   where

@@ -1,4 +1,4 @@
--- What contracts see of a sender.
+-- The contracts' view of a sender.
 use Rattle.std.specs.Prelude.{◌≡◌, ◌≤◌, ◌+◌, ℕ, IfSome}
 use Rattle.msg_names.specs.ClassRef.{slot_of}
 use Rattle.msg_names.specs.Number.{selector_number, imp_number}
@@ -11,7 +11,7 @@ use Rattle.msg_reader.specs.declared.notes.Notes.{Notes}
 use Rattle.msg_cache.specs.Views.{ArenaView, ProberView, IsSenderOf}
 use Rattle.msg_cache.specs.declared.view.SenderView.{SenderView as Seen}
 
--- what contracts see of a sender of a dispatcher
+-- the contracts' view of a sender of a dispatcher
 pub record SenderView : Type 0 where
   -- the history that it has seen, its last probe, how often it loaded the count of changes, and the
   -- stamps that it loaded
@@ -38,6 +38,6 @@ abbrev pub FindsNoted : SenderView → SenderView → Notes → Notes → ClassR
 FindsNoted v w was is c s i =
     (since : ℕ) × LoadsFirst c since v.seen w.seen × IfSome (recalled was since (slot_of c) (selector_number s)) (λ n. (imp_number i ≡ n) × LoadsStamp c since v.seen w.seen × (w.takings ≡ v.takings) × (is ≡ was))
 
--- so it is of a sender with its notes
+-- the same for a sender with its notes
 abbrev pub FindsRecalled : RecallingView → RecallingView → ClassRef → Selector → ImpRef → Type 0
 FindsRecalled r r' c s i = FindsNoted r.sender r'.sender r.notes r'.notes c s i

@@ -17,10 +17,10 @@ use msg_tables::{Change, ChangeFault, ChangeList, Refused, Written};
 use std::marker::Model;
 use std::sync::Wait;
 
-/// What is said of an accepted change.
+/// The result of an accepted change.
 #[derive(Clone, Copy, Debug, PartialEq, Eq)]
 pub struct Receipt {
-    /// How many times changes were accepted, this time included.
+    /// The number of times that changes were accepted, including this one.
     pub count: u64,
 }
 
@@ -48,8 +48,8 @@ impl<'d, N: ArenaName> Model for Changer<'d, N> {
 }
 
 impl<'d, N: ArenaName> Changer<'d, N> {
-    /// Makes a change, or says why not. Senders see the change and the flushes of caches that it
-    /// takes as one.
+    /// Makes a change, or returns why not. Senders see the change and its flushes of caches as one
+    /// step.
     pub fn change<R: Wait>(&mut self, rt: &R, change: &Change) -> Result<Receipt, ChangeFault>
         ensures ok { IfOk result (λ r. IsMadeAt self.old change.now self.new r.count) }
         ensures err { OnErr result (self.new ≡ self.old) }
@@ -58,19 +58,19 @@ impl<'d, N: ArenaName> Changer<'d, N> {
     {
         let dispatcher = self.dispatcher;
         let count = dispatcher
-            .desk
+            .locked_runtime
             .lock(rt)
             .change(&dispatcher.arena, &mut self.turn, change)?;
         self.count = count;
         Ok(Receipt { count })
     }
 
-    /// Makes a list of changes as one, or says which of them would be refused, and then none is
-    /// made. Each lookup, by whatever sender, answers from before all of them or from after all. An
+    /// Makes a list of changes as one. If a change would be refused, it returns which, and makes
+    /// none. Each lookup, by any sender, is from before all of the changes or from after all. An
     /// empty list changes nothing and isn't counted.
     ///
-    /// What the list wrote is noted in the room that is lent. Directly afterwards
-    /// [`way_back`](Written::way_back) of it is a list that takes this one back.
+    /// What the list wrote is noted in `written`. Directly afterwards its
+    /// [`way_back`](Written::way_back) is a list that takes this one back.
     pub fn change_all<R: Wait, L: ChangeList>(
         &mut self,
         rt: &R,
@@ -86,17 +86,17 @@ impl<'d, N: ArenaName> Changer<'d, N> {
     {
         let dispatcher = self.dispatcher;
         let count = dispatcher
-            .desk
+            .locked_runtime
             .lock(rt)
             .change_all(&dispatcher.arena, &mut self.turn, changes, written)?;
         self.count = count;
         Ok(Receipt { count })
     }
 
-    /// Marks the class references whose lookups [`change_all`](Changer::change_all) may alter,
-    /// beside those that are marked, each at its slot, and makes no change; or says which would be
-    /// refused. Then what those before it may alter is marked; where memory is wanting, the marks
-    /// say nothing.
+    /// Marks the class references whose lookups [`change_all`](Changer::change_all) may alter, in
+    /// addition to those that are marked, each at its slot. It makes no change. If a change would
+    /// be refused, it returns which, and marks what the changes before it may alter. If memory is
+    /// lacking, the marks say nothing.
     pub fn reach<R: Wait>(
         &mut self,
         rt: &R,
@@ -113,19 +113,20 @@ impl<'d, N: ArenaName> Changer<'d, N> {
     {
         let dispatcher = self.dispatcher;
         dispatcher
-            .desk
+            .locked_runtime
             .lock(rt)
             .reach_all(&dispatcher.arena, &mut self.turn, changes, marked)
     }
 
-    /// How many times changes were accepted: a list of them counts as one.
+    /// The number of times that changes were accepted: a list of changes counts as one.
     pub fn count(&self) -> u64
         ensures { result ≡ length self.now.changes }
     {
         self.count
     }
 
-    /// The sender has then seen the whole history, which begins with what it had seen.
+    /// Brings a sender up to date: it has then seen the whole history, which begins with what it
+    /// had seen.
     pub fn meet<R: Wait>(&mut self, rt: &R, sender: &mut Sender<'_, N>)
         ensures same { self.new ≡ self.old }
         ensures begins { BeginsWith self.old sender.old.seen.front }
@@ -134,7 +135,7 @@ impl<'d, N: ArenaName> Changer<'d, N> {
     {
         let dispatcher = self.dispatcher;
         dispatcher
-            .desk
+            .locked_runtime
             .lock(rt)
             .meet(&dispatcher.arena, &mut self.turn, &mut sender.reader);
     }

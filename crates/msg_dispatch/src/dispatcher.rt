@@ -1,4 +1,4 @@
-//! The arena, with the runtime lock beside it.
+//! The arena and the runtime lock.
 
 ghost use Rattle.std.specs.Prelude.{◌≡◌, IfOk};
 ghost use Rattle.std.specs.Coded.{codes};
@@ -8,7 +8,7 @@ ghost use Rattle.msg_cache.specs.Counts.{AreCounts};
 ghost use Rattle.msg_runtime.specs.Parts.{IsKeeperOf, keeper_history};
 
 use crate::changer::Changer;
-use crate::desk::Desk;
+use crate::locked_runtime::LockedRuntime;
 use crate::name::ArenaName;
 use crate::sender::Sender;
 use msg_cache::{Arena, Keeper, Report};
@@ -24,7 +24,7 @@ use thiserror::Error;
 #[error("no sender is free")]
 pub struct NoSenderFree;
 
-/// There was a changer already.
+/// The changer was given out before.
 #[derive(Clone, Copy, Debug, PartialEq, Eq, Error)]
 #[error("the changer is out")]
 pub struct ChangerOut;
@@ -34,17 +34,17 @@ pub struct ChangerOut;
 #[derive(Drop)]
 pub struct Dispatcher<N: ArenaName> {
     pub(crate) arena: Arena,
-    pub(crate) desk: Mutex<Desk<N>>,
+    pub(crate) locked_runtime: Mutex<LockedRuntime<N>>,
     pub ghost arena_is: { arena ≡ N.arena } by { Prim.hlevel (codes, table_id_coded) },
 }
 
 impl<N: ArenaName> Dispatcher<N> {
-    /// The dispatcher of an arena that was just opened. Its history is the origin's without
+    /// Makes the dispatcher of an arena that was just opened. Its history is the origin's without
     /// changes, at which the changer begins.
     ///
-    /// The error is want of memory: for the tables, or for the marks of class references that a
-    /// change reaches. Nothing is left of arena and keeper then. No clause says that memory was
-    /// really wanted: tests with ample memory do.
+    /// The only error is a lack of memory: for the tables, or for the marks of class references
+    /// that a change affects. The arena and the keeper are then dropped. No clause says that memory
+    /// was really lacking: tests with ample memory do.
     pub fn open<C: HasOrigin>(
         alloc: Global,
         arena: Arena,
@@ -57,21 +57,21 @@ impl<N: ArenaName> Dispatcher<N> {
         requires history { keeper_history keeper ≡ empty (C.given given.now) }
         ensures { IfOk result (λ d. d.arena ≡ N.arena) }
     {
-        let desk = Desk {
+        let locked_runtime = LockedRuntime {
             runtime: Runtime::open(alloc, &arena, keeper, given)?,
             of: PhantomData,
         };
         Ok(Dispatcher {
             arena,
-            desk: Mutex::new(desk),
+            locked_runtime: Mutex::new(locked_runtime),
         })
     }
 
-    /// A sender, where a number is free.
+    /// Returns a sender, if a number is free.
     pub fn sender<R: Wait>(&self, rt: &R) -> Result<Sender<'_, N>, NoSenderFree>
         ensures { IfOk result (λ s. (s.takings ≡ 0) × (s.seen.front.origin ≡ N.arena.key.origin)) }
     {
-        match self.desk.lock(rt).sender(&self.arena) {
+        match self.locked_runtime.lock(rt).sender(&self.arena) {
             Some(reader) => Ok(Sender {
                 dispatcher: self,
                 reader,
@@ -81,11 +81,11 @@ impl<N: ArenaName> Dispatcher<N> {
         }
     }
 
-    /// The changer: once in the dispatcher's life.
+    /// Returns the changer, once in the dispatcher's life.
     pub fn changer<R: Wait>(&self, rt: &R) -> Result<Changer<'_, N>, ChangerOut>
         ensures { IfOk result (λ c. c ≡ empty N.arena.key.origin) }
     {
-        match self.desk.lock(rt).turn(&self.arena) {
+        match self.locked_runtime.lock(rt).turn(&self.arena) {
             Some(turn) => Ok(Changer {
                 dispatcher: self,
                 turn,
@@ -95,13 +95,13 @@ impl<N: ArenaName> Dispatcher<N> {
         }
     }
 
-    /// What was done to caches so far: the keeper's report.
+    /// The counts of what was done to caches so far: the keeper's report.
     ///
-    /// The clause says only that its counts are in proportion: until the lock is taken and once it
-    /// is let go others may have counted more. Behind the lock it is the runtime's own.
+    /// The clause says only that the counts are in proportion. Before the lock is taken and after
+    /// it is released others may count more. Behind the lock it is the runtime's own report.
     pub fn report<R: Wait>(&self, rt: &R) -> Report
         ensures { AreCounts result }
     {
-        self.desk.lock(rt).report()
+        self.locked_runtime.lock(rt).report()
     }
 }

@@ -19,8 +19,8 @@ use msg_tables::laws::a_found_implementation_is_listed;
 use std::marker::Model;
 use std::sync::Wait;
 
-/// Looks up, first in the caches without a lock. It carries what it has seen of the history, and
-/// never answers from before that.
+/// Looks up, first in the caches without a lock. It remembers what it has seen of the history, and
+/// never answers from an earlier point.
 #[derive(Drop)]
 pub struct Sender<'d, N: ArenaName> {
     pub(crate) dispatcher: &'d Dispatcher<N>,
@@ -43,8 +43,8 @@ impl<'d, N: ArenaName> Model for Sender<'d, N> {
 }
 
 impl<'d, N: ArenaName> Sender<'d, N> {
-    /// The implementation that the cache of a class reference has, which is the lookup's at what
-    /// the sender has then seen. No lock is taken.
+    /// Returns the implementation that the cache of a class reference has. The lookup finds it at
+    /// what the sender has then seen. No lock is taken.
     #[inline]
     pub fn find_cached(&mut self, class: ClassRef, sel: Selector) -> Option<ImpRef>
         requires class { class.class < class_total self.old.seen.front.origin }
@@ -56,7 +56,7 @@ impl<'d, N: ArenaName> Sender<'d, N> {
         self.reader.probe(&self.dispatcher.arena, class, sel)
     }
 
-    // The lock is taken once more.
+    // Counts that the lock is taken once more.
     fn count_taking(&mut self)
         ensures seen { self.new.seen ≡ self.old.seen }
         ensures takings { TakesOnceAtMost self.old self.new }
@@ -65,7 +65,7 @@ impl<'d, N: ArenaName> Sender<'d, N> {
         self.takings = self.takings.saturating_add(1);
     }
 
-    // After a miss: takes the lock.
+    // Answers after a miss, under the lock.
     fn find_locked<R: Wait>(&mut self, rt: &R, class: ClassRef, sel: Selector) -> ImpRef
         requires class { class.class < class_total self.old.seen.front.origin }
         ensures begins { BeginsWith self.new.seen.front self.old.seen.front }
@@ -77,12 +77,12 @@ impl<'d, N: ArenaName> Sender<'d, N> {
         self.count_taking();
         let dispatcher = self.dispatcher;
         dispatcher
-            .desk
+            .locked_runtime
             .lock(rt)
             .answer(&dispatcher.arena, &mut self.reader, class, sel)
     }
 
-    // The same, and notes the answer.
+    // Does the same, and notes the result.
     #[cold]
     #[inline(never)]
     fn find_locked_noted<R: Wait>(
@@ -106,13 +106,13 @@ impl<'d, N: ArenaName> Sender<'d, N> {
         self.count_taking();
         let dispatcher = self.dispatcher;
         dispatcher
-            .desk
+            .locked_runtime
             .lock(rt)
             .answer_noted(&dispatcher.arena, &mut self.reader, notes, class, sel)
     }
 
-    /// The implementation that a lookup finds at what the sender has then seen. After a miss it
-    /// takes the lock, once.
+    /// Returns the implementation that a lookup finds at what the sender has then seen. After a
+    /// miss it takes the lock, once.
     #[inline]
     pub fn find<R: Wait>(&mut self, rt: &R, class: ClassRef, sel: Selector) -> ImpRef
         requires class { class.class < class_total self.old.seen.front.origin }
@@ -130,8 +130,9 @@ impl<'d, N: ArenaName> Sender<'d, N> {
         }
     }
 
-    /// What the notes have of a lookup at all changes, which the sender has then seen: what was
-    /// noted since the stamp of the class reference, which is loaded. It waits for nobody.
+    /// Returns what was noted of a lookup since the stamp of the class reference, which is loaded.
+    /// The lookup finds it at all changes, which the sender has then seen. The call waits for
+    /// nobody.
     #[inline]
     pub fn recall(&mut self, notes: &Notes, class: ClassRef, sel: Selector) -> Option<ImpRef>
         requires class { class.class < class_total self.old.seen.front.origin }
@@ -148,7 +149,7 @@ impl<'d, N: ArenaName> Sender<'d, N> {
             .recall(&self.dispatcher.arena, notes, class, sel)
     }
 
-    // As `find`, by the notes first; what they lack is then noted.
+    // Does the same as `find`, but uses the notes first. What they lack is then noted.
     #[inline(always)]
     #[tactic(auto, using(crate::proofs::RecallingLemmas::found_unlocked, crate::proofs::RecallingLemmas::found_locked))]
     pub(crate) fn find_noted<R: Wait>(
@@ -170,13 +171,16 @@ impl<'d, N: ArenaName> Sender<'d, N> {
         ensures takings { TakesOnceAtMost self.old self.new }
         ensures private { FindsNoted self.old self.new notes.old notes.new class sel result }
     {
-        match self.reader.find(&self.dispatcher.arena, notes, class, sel) {
+        match self
+            .reader
+            .try_find(&self.dispatcher.arena, notes, class, sel)
+        {
             Some(imp) => imp,
             None => self.find_locked_noted(rt, notes, class, sel),
         }
     }
 
-    /// How many changes there are, which the sender has then seen. No lock is taken.
+    /// The number of changes, which the sender has then seen. No lock is taken.
     pub fn published(&mut self) -> u64
         ensures begins { BeginsWith self.new.seen.front self.old.seen.front }
         ensures length { result ≡ length self.new.seen.front.changes }
@@ -186,23 +190,26 @@ impl<'d, N: ArenaName> Sender<'d, N> {
         self.reader.refresh(&self.dispatcher.arena)
     }
 
-    /// How often `find` took the lock.
+    /// The number of times that `find` took the lock.
     pub fn lock_takings(&self) -> u64
         ensures { result ≡ self.now.takings }
     {
         self.takings
     }
 
-    /// Gives the sender's number back. That of a sender which is dropped stays used.
+    /// Gives the sender's number back. The number of a sender that is dropped instead stays in use.
     ///
-    /// No clause says that the number is free then: once the lock is let go another may have it.
-    /// Behind the lock it is taken in.
+    /// No clause says that the number is then free: another sender may get it once the lock is
+    /// released. The number is taken back behind the lock.
     pub fn finish<R: Wait>(self, rt: &R) {
         let Sender {
             dispatcher,
             reader,
             ..
         } = self;
-        dispatcher.desk.lock(rt).finish(&dispatcher.arena, reader);
+        dispatcher
+            .locked_runtime
+            .lock(rt)
+            .finish(&dispatcher.arena, reader);
     }
 }

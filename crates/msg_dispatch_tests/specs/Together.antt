@@ -16,7 +16,7 @@ history k = (view k).history
 abbrev pub HasNoArray : ArenaView → Keeper → ClassRef → Type 0
 HasNoArray a k c = live_in (layout a) (view k).words c ≡ None
 
--- the keeper is of the arena, which has two classes, and the tables stand at this history
+-- the keeper is of the arena, which has two classes, and the tables are at this history
 pub record Together (a : ArenaView) (k : Keeper) (t : TablesView) (h : History) : Type 0 where
   pub keeper : IsOf a k
   pub tables : StandsAt t (log h)
@@ -26,6 +26,6 @@ pub record Together (a : ArenaView) (k : Keeper) (t : TablesView) (h : History) 
 abbrev pub Begin : ArenaView → Keeper → TablesView → Type 0
 Begin a k t = Together a k t (empty a.key.origin)
 
--- the turn is of the arena, and the tables stand at its history
+-- the turn is of the arena, and the tables are at its history
 abbrev pub IsDesk : ArenaView → Keeper → TablesView → TurnView → Type 0
 IsDesk a k t turn = Together a k t turn.history × (turn.table ≡ a.table)

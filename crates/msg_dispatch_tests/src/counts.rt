@@ -1,8 +1,8 @@
-//! What a report counts.
+//! The counts of a report.
 
 use msg_cache::Report;
 
-// What a report counts of entries and arrays.
+// The counts of entries and arrays in a report.
 pub(crate) fn five(report: Report) -> [u64; 5] {
     [
         report.fills,

@@ -1,4 +1,4 @@
-//! An arena's keeper beside class tables that know what may be cached, and senders of the arena.
+//! An arena's keeper, class tables that know what may be cached, and senders of the arena.
 
 ghost use Rattle.std.specs.Prelude.{◌≡◌, ◌<◌};
 ghost use Rattle.msg_image.specs.Opened.{origin_of};
@@ -21,8 +21,8 @@ use std::process::Abort;
 use std::slice::from_ref;
 use std::sync::Arc;
 
-/// An arena of so many senders and arrays for the image of two classes, with its keeper beside
-/// tables.
+/// An arena of this number of senders and arrays for the image of two classes, with its keeper
+/// beside tables.
 pub(crate) fn open(rt: &impl Abort, alloc: Global, senders: u32, arrays: [u16; 9]) -> Box<Desk> {
     let image = image(rt, alloc, SMALL);
     assert_eq!(rt; image.class_count(), 2);
@@ -74,7 +74,7 @@ fn flush(keeper: &mut Keeper, arena: &Arena, class: ClassRef) -> bool
     keeper.flush(arena, class)
 }
 
-/// What a runtime lock guards.
+/// The data behind a runtime lock.
 #[derive(Drop)]
 pub(crate) struct Desk {
     arena: Arc<Arena, Global>,
@@ -145,7 +145,7 @@ impl Desk {
         self.keeper.give_out(&self.arena, number).is_some()
     }
 
-    /// What a sender of this number finds, which is then taken in.
+    /// What a sender with this number finds, which is then taken in.
     pub(crate) fn find_once(
         &mut self,
         rt: &impl Abort,

@@ -25,8 +25,8 @@ fn are_found<N: ArenaName, R: Wait + Abort>(
     }
 }
 
-// An exchange in a class: a subclass with a method of its own beside the exchanged ones answers
-// anew for these, and as before for its own.
+// An exchange in a class. A subclass has a method of its own in addition to the exchanged ones. It
+// finds the exchanged ones again, and its own as before.
 pub(crate) fn an_exchange_is_seen_below<N: ArenaName, R: Wait + Abort>(
     rt: &R,
     sender: &mut Asker<'_, N>,

@@ -53,7 +53,7 @@ pub(crate) fn selector(rt: &impl Abort, number: u32) -> Selector {
 }
 
 // The text of a document of root classes without methods, but for the first, which has methods of
-// so many selectors from 2 on. All are implementation 1.
+// this number of selectors from 2 on. All are implementation 1.
 pub(crate) fn grid(rt: &impl Abort, alloc: Global, classes: u32, selectors: u32) -> String {
     let mut methods = String::new(alloc);
     for number in 0..selectors {

@@ -41,7 +41,7 @@ fn finds_and_sets<N: ArenaName, R: Wait + Abort>(
     same(rt, sender.find(rt, GRAND, sel), ImpRef::of(2));
 }
 
-// A change that was refused for want of memory has changed nothing.
+// A change that was refused for lack of memory has changed nothing.
 fn is_left<N: ArenaName, R: Wait + Abort>(
     rt: &R,
     sender: &mut Asker<'_, N>,
@@ -55,7 +55,7 @@ fn is_left<N: ArenaName, R: Wait + Abort>(
 }
 
 // A change that adds a row, for which there may be no memory. It is tried with ever more, and at
-// last made, where there is some. The first time there is none.
+// last made, if there is some. The first time there is none.
 fn adds<N: ArenaName, R: Wait + Abort>(
     rt: &R,
     dispatcher: &Dispatcher<N>,
@@ -116,8 +116,8 @@ fn answers<N: ArenaName, R: Wait + Abort>(
     assert!(rt; dispatcher.sender(rt).is_ok());
 }
 
-// Opens a dispatcher, where there is memory for one, and takes all memory that is left. Says
-// whether there was.
+// Opens a dispatcher, if there is memory for one, and takes all memory that is left. Says whether
+// there was.
 fn opens_and_answers<N: ArenaName, R: Wait + Abort>(
     rt: &R,
     alloc: Global,
@@ -142,7 +142,7 @@ fn opens_and_answers<N: ArenaName, R: Wait + Abort>(
     }
 }
 
-// The same of an arena that is opened. The fault is want of memory.
+// The same for an arena that is opened. The fault is a lack of memory.
 fn is_answered<R: Wait + Abort>(
     rt: &R,
     alloc: Global,

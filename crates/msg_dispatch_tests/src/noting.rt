@@ -1,4 +1,4 @@
-//! What senders note, and from when on it isn't taken any more.
+//! What senders note, and when a note is no longer used.
 
 ghost use Rattle.std.specs.Prelude.{◌≡◌};
 ghost use Rattle.msg_image.specs.Opened.{origin_of};
@@ -8,7 +8,7 @@ ghost use Rattle.msg_tables.specs.Origin.{class_total};
 use crate::images::{CHILD, GRAND, selector};
 use crate::opening::{Steps, open};
 use crate::same::same;
-use msg_dispatch::{ArenaName, Changer, Dispatcher, Recalling};
+use msg_dispatch::{ArenaName, CachingSender, Changer, Dispatcher};
 use msg_image::{Change, Image};
 use msg_names::{ClassRef, ImpRef, Selector};
 use msg_samples::IMAGE;
@@ -29,7 +29,7 @@ fn addition(class: ClassRef, sel: Selector) -> Change {
 // alone.
 #[derive(Drop)]
 struct Noting<'d, N: ArenaName> {
-    sender: Recalling<'d, N>,
+    sender: CachingSender<'d, N>,
     classes: u32,
     ghost classes_are: { classes ≡ class_total N.arena.key.origin },
     ghost image: { sender.sender.seen.front.origin ≡ N.arena.key.origin } by { Prim.hlevel codes },
@@ -89,7 +89,7 @@ fn asks_anew<N: ArenaName, R: Wait + Abort>(rt: &R, sender: &mut Noting<'_, N>, 
     same(rt, sender.lock_takings(), 2);
 }
 
-// What is noted is taken until a change affects its class, and beside others.
+// A note is used until a change affects its class, also after changes of other classes.
 fn notes_until_a_change<N: ArenaName, R: Wait + Abort>(
     rt: &R,
     sender: &mut Noting<'_, N>,
@@ -120,7 +120,7 @@ pub(crate) fn notes<N: ArenaName, R: Wait + Abort>(
 {
     let sender = dispatcher.sender(rt).expect(rt, "a free number");
     let mut sender = Noting {
-        sender: Recalling::new(alloc, sender).ok().expect(rt, "memory"),
+        sender: CachingSender::new(alloc, sender).ok().expect(rt, "memory"),
         classes: image.class_count(),
     };
     let mut changer = dispatcher.changer(rt).expect(rt, "the turn");

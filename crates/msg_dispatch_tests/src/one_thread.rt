@@ -1,4 +1,4 @@
-//! A dispatcher in one thread: its answers, how often they take the lock, and what is cached.
+//! A dispatcher in one thread: its results, how often it takes the lock, and what is cached.
 
 ghost use Rattle.std.specs.Prelude.{◌≡◌};
 ghost use Rattle.msg_tables.specs.Origin.{class_total};
@@ -104,7 +104,7 @@ fn reports<N: ArenaName, R: Wait + Abort>(rt: &R, dispatcher: &Dispatcher<N>) {
     same(rt, report.no_array, [0; 9]);
 }
 
-// A change of which it isn't told by a lookup is seen when it looks.
+// A sender sees a change without a lookup when it looks.
 fn sees_the_next<N: ArenaName, R: Wait + Abort>(
     rt: &R,
     sender: &mut Asker<'_, N>,
@@ -223,7 +223,7 @@ fn a_refused_change_leaves_the_caches(rt: HostRuntime) {
     );
 }
 
-// Of these classes the caches have the selector, or not.
+// Whether the caches of these classes have the selector.
 fn are_cached<N: ArenaName, R: Wait + Abort>(
     rt: &R,
     sender: &mut Asker<'_, N>,
@@ -235,7 +235,7 @@ fn are_cached<N: ArenaName, R: Wait + Abort>(
     }
 }
 
-// A method that is added to a class is looked up anew there and below, and nowhere else.
+// A method that is added to a class is looked up again there and below, and nowhere else.
 fn keeps_other_caches<N: ArenaName, R: Wait + Abort>(
     rt: &R,
     dispatcher: &Dispatcher<N>,

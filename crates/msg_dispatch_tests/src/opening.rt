@@ -85,7 +85,7 @@ fn runs<N: ArenaName + Send + Sync, R: Threads + Wait + Abort + Sync>(
     take(rt, alloc, &dispatcher, image, steps);
 }
 
-/// Opens a dispatcher of a document's image, with so many senders and arrays.
+/// Opens a dispatcher of a document's image, with this number of senders and arrays.
 pub(crate) fn open<R: Threads + Wait + Abort + Sync>(
     rt: &R,
     alloc: Global,

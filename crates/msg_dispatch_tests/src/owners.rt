@@ -9,7 +9,7 @@ use std::process::Abort;
 use std::sync::Wait;
 use std::thread::{self, Threads};
 
-// Asks ten thousand times, and says whether each answer was implementation 1 or none.
+// Asks ten thousand times, and returns whether each result was implementation 1 or none.
 fn ask(mut reader: Reader, sel: Selector) -> (Reader, bool) {
     let mut is_right = true;
     for _time in 0..10_000 {
@@ -19,7 +19,7 @@ fn ask(mut reader: Reader, sel: Selector) -> (Reader, bool) {
     (reader, is_right)
 }
 
-// Flushes Child's cache and fills it again, a hundred times. Says how often no array was free.
+// Flushes Child's cache and fills it again, a hundred times. Returns how often no array was free.
 fn flush_and_fill(desk: &mut Desk, sel: Selector) -> u32 {
     let mut refused = 0u32;
     for _time in 0..100 {

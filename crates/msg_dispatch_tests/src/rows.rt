@@ -59,7 +59,8 @@ fn a_number_is_given_once(rt: HostRuntime) {
     has_no_more(&rt, &mut desk);
 }
 
-// Caches a selector in Child, where it is then found with this implementation after so many loads.
+// Caches a selector in Child, where it is then found with this implementation after this number of
+// loads.
 fn caches(rt: &impl Abort, desk: &mut Desk, reader: &mut Reader, entry: (u32, Filled, u32, u32)) {
     let (number, filled, found, loads) = entry;
     let sel = selector(rt, number);
@@ -141,8 +142,8 @@ fn refusals(rt: &impl Abort, desk: &mut Desk) -> u32 {
     refused
 }
 
-// Fills Child's cache, where so many entries find no array, and the last one is cached if there is
-// none of these.
+// Fills Child's cache, where this number of entries find no array, and the last one is cached if
+// there is none of these.
 fn grows(rt: &impl Abort, desk: &mut Desk, reader: &mut Reader, none: u32, report: [u64; 5]) {
     same(rt, refusals(rt, desk), none);
     same(rt, five(desk.report()), report);

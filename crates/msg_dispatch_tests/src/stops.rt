@@ -129,7 +129,7 @@ pub(crate) fn stop_once(rt: &impl Abort, desk: &mut Desk, reader: &mut Reader, r
     is_given_again(rt, desk, reader, row, value);
 }
 
-// Of so many senders that of the row's number stops.
+// Among this number of senders the one with the row's number stops.
 fn one_stops(rt: &impl Abort, alloc: Global, senders: u32, row: &(u32, Case)) {
     let mut desk = open(rt, alloc, senders, [1, 0, 0, 0, 0, 0, 0, 0, 0]);
     let mut reader = desk.give_out(rt, row.0);

@@ -1,4 +1,4 @@
-//! Senders in threads of their own, beside changes.
+//! Senders in threads of their own, concurrently with changes.
 
 ghost use Rattle.std.specs.Prelude.{◌≡◌, ◌<◌};
 ghost use Rattle.msg_image.specs.Opened.{origin_of};
@@ -17,7 +17,7 @@ use std::sync::Wait;
 use std::thread;
 use std::thread::Threads;
 
-// Exchanges two methods of the root class, so many times.
+// Exchanges two methods of the root class, this number of times.
 fn exchange<N: ArenaName, R: Wait + Abort>(
     rt: &R,
     changer: &mut Changer<'_, N>,
@@ -36,7 +36,7 @@ fn exchange<N: ArenaName, R: Wait + Abort>(
     }
 }
 
-// Asks a hundred times, and is answered one of two implementations each time.
+// Asks a hundred times, and gets one of two implementations each time.
 fn ask<N: ArenaName, R: Wait + Abort>(
     rt: &R,
     sender: &mut Asker<'_, N>,
@@ -49,14 +49,14 @@ fn ask<N: ArenaName, R: Wait + Abort>(
     }
 }
 
-// What senders do, and the changer beside them.
+// What senders do, and what the changer does concurrently.
 #[derive(Clone, Copy)]
 enum Work {
     Exchanges,
     Additions,
 }
 
-// So many senders.
+// This number of senders.
 fn open_all<'d, N: ArenaName, R: Wait + Abort>(
     rt: &R,
     alloc: Global,
@@ -101,7 +101,7 @@ fn ask_in_threads<'d, N: ArenaName + Send + Sync, R: Threads + Wait + Abort + Sy
     )
 }
 
-// The same beside the changer.
+// The same, concurrently with the changer.
 fn ask_beside<'d, N: ArenaName + Send + Sync, R: Threads + Wait + Abort + Sync>(
     rt: &R,
     changer: &mut Changer<'_, N>,
@@ -183,8 +183,8 @@ fn add_all<N: ArenaName, R: Wait + Abort>(rt: &R, changer: &mut Changer<'_, N>) 
     }
 }
 
-// Asks for what is added, until the last was found and so many answers were given. What was added
-// before something that was found is found, too.
+// Asks for what is added, until the last was found and this number of answers were given. What was
+// added before something that was found is found, too.
 fn never_older<N: ArenaName, R: Wait + Abort>(rt: &R, sender: &mut Asker<'_, N>, times: u32) {
     let mut found = 0;
     let mut place = 7u32;
@@ -201,7 +201,7 @@ fn never_older<N: ArenaName, R: Wait + Abort>(rt: &R, sender: &mut Asker<'_, N>,
     }
 }
 
-// What was added is found.
+// Finds what was added.
 fn finds_all<N: ArenaName, R: Wait + Abort>(rt: &R, sender: &mut Asker<'_, N>) {
     for number in 0..ADDED {
         let (class, sel) = added(number);

@@ -1,10 +1,10 @@
 //! Runs the documents of the folder that it is started in, and says of each whether its answers are
 //! as they should be.
 //!
-//! In `examples` and `answers` a document `NAME.json` stands beside `NAME.out`, which is what a run
-//! of it writes, for each number of workers and each cut. In `edits` each `NAME.edits` has edits of
+//! In `examples` and `answers` a document `NAME.json` is beside `NAME.out`, which is what a run of
+//! it writes, for each number of workers and each cut. In `edits` each `NAME.edits` has edits of
 //! the documents there, and the fault that the edited document is refused with. Each text is also
-//! read by `serde_json`, which has to make the same of it.
+//! read by `serde_json`, which has to make the same for it.
 #![tactic(auto)]
 
 mod edits;
@@ -18,7 +18,7 @@ use std::sync::Wait;
 use std::thread::{self, Threads};
 use std::{fs, io};
 
-/// How many workers there are, and how many sends a piece has at most.
+/// The number of workers, and how many sends a piece has at most.
 const SPLITS: [(u32, u32); 10] = [
     (1, 64),
     (1, 1),

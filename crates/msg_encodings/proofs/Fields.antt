@@ -16,7 +16,7 @@ branch : {A : Type 0} (b : Bool) (x y z : A) → (b ≡ false → y ≡ z) → c
 branch true x y z same = refl
 branch false x y z same = same refl
 
--- as many as there may be are enough
+-- the limit of members is enough
 fields-enough : (type : List ℕ → Read) → Shortens type → (close left more end align : ℕ) (text : List ℕ) → length text < left → length text < more → fields type close left end align text ≡ fields type close more end align text
 unfolding fields
 fields-enough type shorter close zero more end align text few many = absurd (omega arith)
@@ -27,7 +27,7 @@ fields-enough type shorter close (suc left) (suc more) end align text few many =
     let last = (place (front close end) member.0).1 in
     branch (ends close at) _ _ _ (λ e. fields-enough type shorter close left more (max end last) (max align member.0.align) member.1 (omega (arith, shorter at, past_name-le text, some close at e)) (omega (arith, shorter at, past_name-le text, some close at e)))
 
--- where members end
+-- if no member is left
 pub fields-end : (type : List ℕ → Read) (close left end align : ℕ) (text : List ℕ) → ends close (past_name text) ≡ true → fields type close (suc left) end align text ≡ (whole end align, past_one close (past_name text))
 unfolding fields
 fields-end type close left end align text e = rw e refl
@@ -36,7 +36,7 @@ fields-on : (type : List ℕ → Read) (close left end align : ℕ) (text : List
 unfolding fields
 fields-on type close left end align text e = rw e refl
 
--- where one stands
+-- if a member is left
 pub fields-next : (type : List ℕ → Read) → Shortens type → (close end align : ℕ) (text : List ℕ) → ends close (past_name text) ≡ false → fields type close (suc (length (type (past_name text)).1)) (max end (place (front close end) (type (past_name text)).0).1) (max align (type (past_name text)).0.align) (type (past_name text)).1 ≡ fields type close (suc (length text)) end align text
 fields-next type shorter close end align text e =
     let at = past_name text in
@@ -44,11 +44,11 @@ fields-next type shorter close end align text e =
     let last = (place (front close end) member.0).1 in
     fields-enough type shorter close (suc (length member.1)) (length text) (max end last) (max align member.0.align) member.1 (omega arith) (omega (arith, shorter at, past_name-le text, some close at e)) ∙ sym (fields-on type close (length text) end align text e)
 
--- a member leaves less
+-- a member leaves a shorter text
 pub member-shorter : (type : List ℕ → Read) → Shortens type → (close : ℕ) (text : List ℕ) → ends close (past_name text) ≡ false → length (type (past_name text)).1 < length text
 member-shorter type shorter close text e = omega (arith, shorter (past_name text), past_name-le text, some close (past_name text) e)
 
--- a type within which others may be nested
+-- a type in which others may be nested
 pub first-at : (depth : ℕ) (text : List ℕ) → 0 < depth → first depth text ≡ begun (first (depth - 1)) (past qualifiers text)
 unfolding first
 first-at zero text some = absurd (omega arith)

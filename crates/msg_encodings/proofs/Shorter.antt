@@ -1,4 +1,4 @@
--- What is read leaves less of a text.
+-- Reading leaves a shorter text.
 use Rattle.std.proofs.Common.{◌==◌, ℕ, zero, suc, ◌-◌, ◌≤◌, max, Bool, true, false, cond, List, [], ◌∷◌, length, arith}
 use Rattle.msg_encodings.specs.Letters.{is_one_of, kind}
 use Rattle.msg_encodings.specs.Shapes.{place}
@@ -11,7 +11,7 @@ choice : {A : Type 0} (P : A → Type 0) (b : Bool) (x y : A) → P x → P y �
 choice P true x y p q = p
 choice P false x y p q = q
 
--- no longer than so many
+-- a text within a length
 abbrev Within : ℕ → List ℕ → Type 0
 Within n text = length text ≤ n
 
@@ -38,7 +38,7 @@ past_number-le (x ∷ xs) = choice (Within (suc (length xs))) (is_digit x) (past
 past_tag-le : (close : ℕ) (text : List ℕ) → length (past_tag close text) ≤ length text
 past_tag-le close text = omega (arith, past_one-le 61 (up_to (61 ∷ close ∷ []) text), up_to-le (61 ∷ close ∷ []) text)
 
--- it leaves less of each text, and nothing of the empty one
+-- a reader leaves a shorter text of each text, and nothing of the empty one
 abbrev pub Shortens : (List ℕ → Read) → Type 0
 Shortens type = (text : List ℕ) → length (type text).1 ≤ length text - 1
 
@@ -70,7 +70,7 @@ begun-le : (type : List ℕ → Read) → Shortens type → (text : List ℕ) �
 begun-le type shorter [] = omega arith
 begun-le type shorter (letter ∷ rest) = omega (arith, of_kind-le type shorter letter rest (kind letter))
 
--- the first type takes a byte at least, where there is one
+-- the first type takes at least one byte, if there is one
 pub first-shortens : (depth : ℕ) → Shortens (first depth)
 unfolding first
 first-shortens zero text = omega arith

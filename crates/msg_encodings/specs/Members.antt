@@ -1,4 +1,4 @@
--- A type, and a member of a structure, by their places in a text.
+-- A type and a member of a structure, by their positions in a text.
 use Rattle.std.specs.Prelude.{ℕ, Bool, true, List, [], ◌∷◌, Option, None, Some, length, ◌==◌, ◌-◌, ◌||◌, if◌then◌else◌}
 use Rattle.msg_encodings.specs.Shapes.{place}
 use Rattle.msg_encodings.specs.Texts.{past_name}
@@ -22,7 +22,7 @@ abbrev pub stops : List ℕ → Bool
 stops [] = true
 stops (x ∷ xs) = x == 125 || x == 41
 
--- the member in front of a text, where those before it end at this bit
+-- the member at the beginning of a text, if those before it end at this bit
 abbrev pub member_of : List ℕ → ℕ → Option Member
 member_of text before =
     let at = past_name text in

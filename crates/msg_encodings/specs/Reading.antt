@@ -1,4 +1,4 @@
--- A type, and the text behind it.
+-- A type, and the text after it.
 use Rattle.std.specs.Prelude.{ℕ, zero, suc, Bool, true, List, [], ◌∷◌, length, ◌==◌, max, if◌then◌else◌}
 use Rattle.msg_encodings.specs.Letters.{kind, size_of}
 use Rattle.msg_encodings.specs.Shapes.{plain, rows, vector, bit_field, whole, place}
@@ -7,25 +7,25 @@ use Rattle.msg_encodings.specs.declared.letters.Kind.{Kind}
 use Rattle.msg_encodings.specs.declared.letters.Kind.TheVariants.{Fields, Rows, Vector, Complex, Bits, Pointer, Object, Plain}
 use Rattle.msg_encodings.specs.declared.shapes.Shape.{Shape}
 
--- what is read in front of a text, and the text behind it
+-- what is read at the beginning of a text, and the text after it
 abbrev pub Read : Type 0
 Read = Shape × List ℕ
 
--- no member stands here
+-- no member is left
 abbrev pub ends : ℕ → List ℕ → Bool
 ends close [] = true
 ends close (x ∷ xs) = x == close
 
--- without the name of a structure or union, up to its members or its end
+-- the text after the name of a structure or union, from its members or its end
 abbrev pub past_tag : ℕ → List ℕ → List ℕ
 past_tag close text = past_one 61 (up_to (61 ∷ close ∷ []) text)
 
--- the bit behind which the next member lies: a union's lie at its begin
+-- the bit after which the next member lies: the members of a union lie at its beginning
 abbrev pub front : ℕ → ℕ → ℕ
 front close end = if close == 41 then 0 else end
 
--- Members up to this letter, at most so many more, where those before end at this bit and are
--- aligned so.
+-- The members up to the closing letter, of which a limited number is read. The members before them
+-- end at the bit, and have this largest alignment.
 unfoldable pub fields : (List ℕ → Read) → ℕ → ℕ → ℕ → ℕ → List ℕ → Read
 fields type close zero end align text = (whole end align, text)
 fields type close (suc left) end align text =
@@ -35,11 +35,11 @@ fields type close (suc left) end align text =
     if ends close at then (whole end align, past_one close at)
     else fields type close left (max end last) (max align member.0.align) member.1
 
--- the members of a structure or union: each takes a byte of the text, so there are no more
+-- the members of a structure or union: each takes a byte of the text, so this limit is enough
 abbrev pub members : (List ℕ → Read) → ℕ → List ℕ → Read
 members type close text = fields type close (suc (length text)) 0 1 text
 
--- Behind a letter of this kind. `type` reads what is nested in it.
+-- What comes after a letter of this kind. `type` reads the types that are nested in it.
 abbrev pub of_kind : (List ℕ → Read) → ℕ → List ℕ → Kind → Read
 of_kind type letter rest (Fields close) = members type close (past_tag close rest)
 of_kind type letter rest Rows =
@@ -60,7 +60,7 @@ abbrev pub begun : (List ℕ → Read) → List ℕ → Read
 begun type [] = (plain 0, [])
 begun type (letter ∷ rest) = of_kind type letter rest (kind letter)
 
--- The first type, within which types may be nested so deep. What is deeper ends the text.
+-- The first type, in which types may be nested to this depth. A deeper type ends the text.
 unfoldable pub first : ℕ → List ℕ → Read
 first zero text = (plain 0, [])
 first (suc depth) text = begun (first depth) (past qualifiers text)

@@ -1,4 +1,4 @@
--- How large types are, and where members lie.
+-- The sizes of types, and the positions of members.
 use Rattle.std.specs.Prelude.{ℕ, ◌+◌, ◌*◌, ◌<◌, ◌≤◌, Option, None, Some, min, max}
 use Rattle.std.specs.Int.{next_multiple_of}
 use Rattle.msg_encodings.specs.Units.{bytes}
@@ -11,19 +11,19 @@ pub record Fits (s : Shape) : Type 0 where
   pub some : 0 < s.align
   pub align : s.align ≤ LARGEST
 
--- so many bytes, aligned to as many
+-- a type with this size in bytes, which is also its alignment
 abbrev pub plain : ℕ → Shape
 plain size = record { size = size; align = max size 1; bits = None }
 
--- so many in a row
+-- an array with this number of elements
 abbrev pub rows : ℕ → Shape → Shape
 rows count row = record { size = min (count * row.size) LARGEST; align = row.align; bits = None }
 
--- a size and an alignment that are said
+-- a size and an alignment that the encoding gives
 abbrev pub vector : ℕ → ℕ → Shape
 vector size align = record { size = size; align = max align 1; bits = None }
 
--- so many bits from the first on, of a declared type
+-- a number of bits of a declared type, from the first bit on
 abbrev pub bit_field : ℕ → ℕ → Shape → Shape
 bit_field first count declared = record {
   size = declared.size;
@@ -31,7 +31,8 @@ bit_field first count declared = record {
   bits = Some (first, first + count);
 }
 
--- a structure whose members end before this bit and are aligned so: a multiple of that
+-- a structure whose members end before this bit and have this largest alignment: its size is a
+-- multiple of the alignment
 abbrev pub whole : ℕ → ℕ → Shape
 whole end align = record {
   size = min (next_multiple_of (bytes end) align) LARGEST;
@@ -39,13 +40,13 @@ whole end align = record {
   bits = None;
 }
 
--- from which bit to before which a member of so many bytes lies, behind those that end before this
--- bit: at the next multiple of its alignment
+-- the first bit of a member of this size and the bit after its last: it lies at the next multiple
+-- of its alignment after this bit, at which the members before it end
 abbrev pub next_place : ℕ → ℕ → ℕ → ℕ × ℕ
 next_place end size align =
     let first = 8 * next_multiple_of (bytes end) align in (first, first + 8 * size)
 
--- a bit-field lies where it says
+-- a bit-field lies where its encoding says
 abbrev pub place_by : Option (ℕ × ℕ) → ℕ × ℕ → ℕ × ℕ
 place_by None next = next
 place_by (Some bits) next = bits

@@ -1,24 +1,24 @@
--- What a text has in front.
+-- What a text begins with.
 use Rattle.std.specs.Prelude.{ℕ, ◌+◌, ◌*◌, ◌-◌, Bool, List, [], ◌∷◌, ◌==◌, nat_le, min, if◌then◌else◌, ◌&&◌}
 use Rattle.msg_encodings.specs.Letters.{is_one_of}
 use Rattle.msg_encodings.specs.declared.letters.TheConstants.{LARGEST}
 
--- without the letters in front that are of these
+-- the text after its leading letters that are among these
 abbrev pub past : List ℕ → List ℕ → List ℕ
 past these [] = []
 past these (x ∷ xs) = if is_one_of these x then past these xs else x ∷ xs
 
--- from the first letter on that is one of these
+-- the text from its first letter that is among these
 abbrev pub up_to : List ℕ → List ℕ → List ℕ
 up_to these [] = []
 up_to these (x ∷ xs) = if is_one_of these x then x ∷ xs else up_to these xs
 
--- without this letter, where it is in front
+-- the text after this letter, if it begins with it
 abbrev pub past_one : ℕ → List ℕ → List ℕ
 past_one it [] = []
 past_one it (x ∷ xs) = if x == it then xs else x ∷ xs
 
--- without a name in quotes, where one is in front
+-- the text after a name in quotes, if it begins with one
 abbrev pub past_name : List ℕ → List ℕ
 past_name [] = []
 past_name (x ∷ xs) = if x == 34 then past_one 34 (up_to (34 ∷ []) xs) else x ∷ xs
@@ -26,7 +26,7 @@ past_name (x ∷ xs) = if x == 34 then past_one 34 (up_to (34 ∷ []) xs) else x
 abbrev pub is_digit : ℕ → Bool
 is_digit x = nat_le 48 x && nat_le x 57
 
--- the number that the digits in front write behind this one, or the largest
+-- the number that the leading digits write after this one, at most the largest
 abbrev pub number_behind : ℕ → List ℕ → ℕ
 number_behind n [] = n
 number_behind n (x ∷ xs) = if is_digit x then number_behind (min (10 * n + (x - 48)) LARGEST) xs else n
@@ -38,7 +38,7 @@ number text = number_behind 0 text
 abbrev pub qualifiers : List ℕ
 qualifiers = 114 ∷ 110 ∷ 78 ∷ 111 ∷ 79 ∷ 82 ∷ 86 ∷ 124 ∷ []
 
--- behind the digits in front
+-- the text after its leading digits
 abbrev pub past_number : List ℕ → List ℕ
 past_number [] = []
 past_number (x ∷ xs) = if is_digit x then past_number xs else x ∷ xs

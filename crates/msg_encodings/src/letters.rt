@@ -3,26 +3,26 @@
 ghost use Rattle.std.specs.Prelude.{◌≡◌, ◌≤◌};
 ghost use Rattle.msg_encodings.specs.Letters.{kind, size_of};
 
-/// No size or alignment is larger, in bytes.
+/// The largest size and the largest alignment, in bytes.
 pub const LARGEST: u64 = 268_435_456;
 
-/// How deep types may be nested.
+/// The greatest depth to which types may be nested.
 pub const DEEPEST: u32 = 200;
 
-/// What stands behind a letter.
+/// What comes after a letter.
 #[derive(Clone, Copy)]
 pub(crate) enum Kind {
-    /// Members, up to this letter.
+    /// Members, up to this closing letter.
     Fields(u8),
     /// A count, a type and `]`.
     Rows,
     /// `[`, a size, `,`, an alignment, a type and `]`.
     Vector,
-    /// The type of its two parts.
+    /// The type of the two parts.
     Complex,
-    /// The place of its first bit, the declared type, and the number of bits.
+    /// The position of the first bit, the declared type, and the number of bits.
     Bits,
-    /// Marks, and the type that is pointed to.
+    /// Qualifiers, and the type that is pointed to.
     Pointer,
     /// The mark of a block, or a class in quotes, or nothing.
     Object,
@@ -47,8 +47,8 @@ pub(crate) fn kind_of(letter: u8) -> Kind
     }
 }
 
-/// The bytes of a type that is a letter alone, which it is aligned to, too; 0 for a letter that is
-/// unknown.
+/// The size in bytes of a type that is one letter, which is also its alignment; 0 for an unknown
+/// letter.
 pub(crate) fn size_of(letter: u8) -> u64
     ensures value { result ≡ size_of letter }
     ensures small { result ≤ 16 }

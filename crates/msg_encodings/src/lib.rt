@@ -1,8 +1,8 @@
-//! Encodings of Objective-C types, as GCC's `@encode` spells them: where a type ends, its size and
-//! alignment on x86-64, and the members of a structure one by one.
+//! Encodings of Objective-C types, as GCC's `@encode` writes them. The crate gives the end of a
+//! type, its size and alignment on x86-64, and the members of a structure one by one.
 //!
-//! A text may come from anywhere. What isn't an encoding is read too: a letter that is unknown has
-//! no size, what is nested too deep ends the text, and no size is above [`LARGEST`].
+//! A text may come from anywhere. A text that isn't an encoding is read too: an unknown letter has
+//! no size, types that are nested too deep end the text, and no size is above [`LARGEST`].
 #![tactic(auto)]
 
 mod letters;

@@ -1,4 +1,4 @@
-//! Types, within others.
+//! Reading types, and types within types.
 
 ghost use Rattle.std.specs.Prelude.{◌≡◌};
 ghost use Rattle.msg_encodings.specs.Reading.{ends, first, front, members, of_kind, past_tag};
@@ -8,7 +8,7 @@ use crate::letters::{Kind, kind_of, size_of};
 use crate::shapes::Shape;
 use crate::texts::{number, past, past_name, past_one, up_to};
 
-/// Whether no member stands here: the text ends, or this letter is there.
+/// Whether no member is left: the text ends, or the closing letter comes.
 pub(crate) fn ends(text: &[u8], close: u8) -> bool
     ensures { result ≡ ends close text.now }
 {
@@ -18,7 +18,7 @@ pub(crate) fn ends(text: &[u8], close: u8) -> bool
     }
 }
 
-// The bit behind which the next member lies: a union's lie at its begin.
+// The bit after which the next member lies: the members of a union lie at its beginning.
 fn front(close: u8, end: u64) -> u64
     ensures { result ≡ front close end }
 {
@@ -48,7 +48,7 @@ fn fields(text: &[u8], close: u8, depth: u32) -> (Shape, &[u8])
     }
 }
 
-// What a letter of this kind begins, of which the rest stands here.
+// What a letter of this kind begins; `rest` is the text after the letter.
 #[cycle(reading)]
 fn behind(kind: Kind, letter: u8, rest: &[u8], depth: u32) -> (Shape, &[u8])
     ensures fits { Fits result.0 }
@@ -87,7 +87,8 @@ fn behind(kind: Kind, letter: u8, rest: &[u8], depth: u32) -> (Shape, &[u8])
     }
 }
 
-/// The first type of a text, of which so many may be nested; and the text behind it.
+/// Reads the first type of a text, with types nested to `depth` at most, and returns the text after
+/// it.
 #[cycle(reading)]
 pub(crate) fn first(text: &[u8], depth: u32) -> (Shape, &[u8])
     ensures fits { Fits result.0 }
@@ -103,7 +104,7 @@ pub(crate) fn first(text: &[u8], depth: u32) -> (Shape, &[u8])
     }
 }
 
-/// Without the name in front of the members that this letter ends.
+/// The text after the name that comes before the members, which this letter closes.
 pub(crate) fn past_tag(text: &[u8], close: u8) -> &[u8]
     ensures { result.now ≡ past_tag close text.now }
 {

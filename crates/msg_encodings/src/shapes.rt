@@ -1,4 +1,4 @@
-//! How large types are, and where members lie.
+//! The sizes of types, and the positions of members.
 
 ghost use Rattle.std.specs.Prelude.{◌≡◌, ◌≤◌, ◌<◌, ◌^◌};
 ghost use Rattle.msg_encodings.specs.Shapes.{Fits, plain, rows, vector, bit_field, whole, place};
@@ -14,12 +14,12 @@ pub(crate) struct Shape {
     pub(crate) size: u64,
     /// In bytes.
     pub(crate) align: u64,
-    /// Of a bit-field: the bits of its structure from the first to before the second.
+    /// For a bit-field: its first bit in the structure, and the bit after its last.
     pub(crate) bits: Option<(u64, u64)>,
 }
 
 impl Shape {
-    /// A type of so many bytes, which is aligned to as many.
+    /// A type with this size in bytes, which is also its alignment.
     pub(crate) fn plain(size: u64) -> Shape
         requires { size ≤ 16 }
         ensures value { result ≡ plain size }
@@ -32,7 +32,7 @@ impl Shape {
         }
     }
 
-    /// So many of a type, in a row.
+    /// An array with this number of elements.
     pub(crate) fn rows(self, count: u64) -> Shape
         requires fits { Fits self }
         requires count { count ≤ LARGEST }
@@ -46,7 +46,7 @@ impl Shape {
         }
     }
 
-    /// A vector, of which both are said.
+    /// A vector, whose encoding gives its size and its alignment.
     pub(crate) fn vector(size: u64, align: u64) -> Shape
         requires size { size ≤ LARGEST }
         requires align { align ≤ LARGEST }
@@ -60,7 +60,7 @@ impl Shape {
         }
     }
 
-    /// So many bits of this type, from the bit of that number on.
+    /// A bit-field of `count` bits with this declared type, from the bit `first` on.
     pub(crate) fn bit_field(self, first: u64, count: u64) -> Shape
         requires fits { Fits self }
         requires first { first ≤ LARGEST }
@@ -75,7 +75,8 @@ impl Shape {
         }
     }
 
-    /// A structure whose last bit is before this one, with members that are aligned so.
+    /// A structure whose members end before the bit `end`, with the largest alignment of its
+    /// members.
     pub(crate) fn whole(end: u64, align: u64) -> Shape
         requires some { 0 < align }
         requires most { align ≤ LARGEST }
@@ -89,7 +90,8 @@ impl Shape {
         }
     }
 
-    /// From which bit to before which it lies, where the members in front end before this one.
+    /// The first bit of this member and the bit after its last, if the members before it end at
+    /// `end`.
     pub(crate) fn place(self, end: u64) -> (u64, u64)
         requires { Fits self }
         ensures { result ≡ place end self }

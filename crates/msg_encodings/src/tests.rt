@@ -1,4 +1,4 @@
-//! Sizes, ends and members, as GCC answers them on x86-64.
+//! Sizes, ends and members, as GCC gives them on x86-64.
 
 use crate::{Member, first_type, next_member};
 

@@ -1,4 +1,4 @@
-//! What a text has in front.
+//! What a text begins with.
 
 ghost use Rattle.std.specs.Prelude.{◌≡◌, ◌≤◌, ◌∷◌};
 ghost use Rattle.msg_encodings.specs.Texts.{past, up_to, past_one, past_name, number, past_number};
@@ -6,7 +6,7 @@ ghost use Rattle.msg_encodings.specs.declared.letters.TheConstants.{LARGEST};
 
 use crate::letters::LARGEST;
 
-/// Without the letters in front that are of these.
+/// The text after its leading letters that are among these.
 pub(crate) fn past<'a>(text: &'a [u8], these: &[u8]) -> &'a [u8]
     ensures { result.now ≡ past these.now text.now }
 {
@@ -20,7 +20,7 @@ pub(crate) fn past<'a>(text: &'a [u8], these: &[u8]) -> &'a [u8]
     rest
 }
 
-/// From the first letter on that is one of these.
+/// The text from its first letter that is among these.
 pub(crate) fn up_to<'a>(text: &'a [u8], these: &[u8]) -> &'a [u8]
     ensures { result.now ≡ up_to these.now text.now }
 {
@@ -34,7 +34,7 @@ pub(crate) fn up_to<'a>(text: &'a [u8], these: &[u8]) -> &'a [u8]
     rest
 }
 
-/// Without this letter, where it is in front.
+/// The text after this letter, if it begins with it.
 pub(crate) fn past_one(text: &[u8], it: u8) -> &[u8]
     ensures { result.now ≡ past_one it text.now }
 {
@@ -44,7 +44,7 @@ pub(crate) fn past_one(text: &[u8], it: u8) -> &[u8]
     }
 }
 
-/// Without a name in quotes, where one is in front.
+/// The text after a name in quotes, if it begins with one.
 pub(crate) fn past_name(text: &[u8]) -> &[u8]
     ensures { result.now ≡ past_name text.now }
 {
@@ -54,7 +54,7 @@ pub(crate) fn past_name(text: &[u8]) -> &[u8]
     }
 }
 
-/// The number that the digits in front write, and the text behind them.
+/// The number that the leading digits write, at most [`LARGEST`], and the text after them.
 pub(crate) fn number(text: &[u8]) -> (u64, &[u8])
     ensures value { result.0 ≡ number text.now }
     ensures rest { result.1.now ≡ past_number text.now }

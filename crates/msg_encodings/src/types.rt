@@ -1,4 +1,4 @@
-//! A type, and a member of a structure, by their places in a text.
+//! A type and a member of a structure, by their positions in a text.
 
 ghost use Rattle.std.specs.Prelude.{◌≡◌, ◌≤◌, ◌<◌, length, IfSome};
 ghost use Rattle.msg_encodings.specs.Members.{type_of, member_of, stops};
@@ -7,33 +7,33 @@ use crate::letters::DEEPEST;
 use crate::reading::first;
 use crate::texts::past_name;
 
-/// A type in front of a text.
+/// A type at the beginning of a text.
 #[derive(Clone, Copy, Debug, PartialEq, Eq)]
 pub struct Extent {
     /// In bytes, at most [`crate::LARGEST`].
     pub size: u64,
     /// In bytes, from 1 to [`crate::LARGEST`].
     pub align: u64,
-    /// The place in the text behind the type.
+    /// The position in the text after the type.
     pub end: usize,
 }
 
-/// A member in front of the text of those of a structure.
+/// A member at the beginning of a text of members.
 #[derive(Clone, Copy, Debug, PartialEq, Eq)]
 pub struct Member {
-    /// The place in the text of the member's type, behind its name.
+    /// The position in the text of the member's type, which comes after its name.
     pub begin: usize,
-    /// The place in the text behind the member.
+    /// The position in the text after the member.
     pub end: usize,
-    /// The first bit that it takes of the structure.
+    /// The first bit of the structure that the member takes.
     pub first: u64,
-    /// The bit behind the last that it takes.
+    /// The bit after the last that the member takes.
     pub last: u64,
     /// The alignment of its type, in bytes.
     pub align: u64,
 }
 
-/// The first type of a text.
+/// Reads the first type of a text.
 pub fn first_type(text: &[u8]) -> Extent
     ensures value { result ≡ type_of text.now }
     ensures inside { result.end ≤ length text.now }
@@ -48,7 +48,7 @@ pub fn first_type(text: &[u8]) -> Extent
     }
 }
 
-// Whether no member stands here.
+// Whether no member is left.
 fn stops(text: &[u8]) -> bool
     ensures { result ≡ stops text.now }
 {
@@ -58,8 +58,8 @@ fn stops(text: &[u8]) -> bool
     }
 }
 
-/// The member of a structure that stands in front of a text, where those before it end before this
-/// bit; of a union, 0. None where the structure or the text ends.
+/// Reads the structure member at the beginning of a text. `before` is the bit at which the members
+/// before it end, or 0 in a union. There is none if the structure or the text ends.
 pub fn next_member(text: &[u8], before: u64) -> Option<Member>
     ensures value { result ≡ member_of text.now before }
     ensures inside { IfSome result (λ m. m.end ≤ length text.now) }

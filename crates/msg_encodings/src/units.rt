@@ -6,10 +6,10 @@ ghost use Rattle.msg_encodings.specs.declared.letters.TheConstants.{LARGEST};
 
 use crate::letters::LARGEST;
 
-/// How many bits a byte has.
+/// The number of bits in a byte.
 pub(crate) const BITS: u64 = 8;
 
-/// The bytes that so many bits take, or the most.
+/// The bytes that this number of bits takes, at most [`LARGEST`].
 pub(crate) fn bytes(bits: u64) -> u64
     ensures value { result ≡ bytes bits }
     ensures most { result ≤ LARGEST }

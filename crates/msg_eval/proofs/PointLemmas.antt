@@ -43,7 +43,7 @@ last_no_shorter : (h : History) (points : List History) → Rise h points → le
 last_no_shorter h [] rise = omega arith
 last_no_shorter h (p ∷ ps) rise = let a = begins_length p h rise.0 in let b = last_no_shorter p ps rise.1 in omega (arith, a, b)
 
--- where the last point is no longer than the first history, each point is that history
+-- if the last point is no longer than the first history, each point is that history
 pub all_one : (h : History) (points : List History) → Rise h points → length (last_of h points).changes ≤ length h.changes → AllAre h points
 all_one h [] rise le = tt
 all_one h (p ∷ ps) rise le =
@@ -52,7 +52,7 @@ all_one h (p ∷ ps) rise le =
     let is : p ≡ h = begins_same p h rise.0 (omega (arith, up, le, n)) in
     (is, subst (λ q. AllAre q ps) is (all_one p ps rise.1 (omega (arith, n, le))))
 
--- ---- points at which tables stand that stay
+-- ---- points of tables that stay
 
 -- each point has the changes of h, one after another
 abbrev pub AllLike : History → List History → Type 0

@@ -29,7 +29,7 @@ IsValue f e v = (n : ℕ) (k : Rest) → evaluated f e n k ≡ k v n
 abbrev pub all_evaluated : Frame → Expressions → List Value → ℕ → (List Value → ℕ → Meaning) → Meaning
 all_evaluated f es done n = eval_all f.image.now (bodies f.image.now f.depth) (scope_of f) es done n
 
--- arguments, of which none is evaluated yet
+-- arguments, none of which is evaluated yet
 abbrev pub args_evaluated : Frame → List Expr → ℕ → (List Value → ℕ → Meaning) → Meaning
 args_evaluated f es n = all_evaluated f (plain_all es) [] n
 

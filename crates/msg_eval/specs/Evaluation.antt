@@ -39,7 +39,7 @@ abbrev pub eval_body : ImageParts → Bodies → Value → List Value → ℕ �
 eval_body image body me xs n k None = fault NotAnObject
 eval_body image body me xs n k (Some i) = eval image body (record { me = me; args = xs; home = i.home }) i.body n k
 
--- the bodies of an image, where so many may be active at once
+-- the bodies of an image, with a limit on how many may be active at once
 unfoldable pub bodies : ImageParts → ℕ → Bodies
 bodies image zero i me xs n k = fault Depth
 bodies image (suc d) i me xs n k = eval_body image (bodies image d) me xs n k (slice_get image.imps (i - 1))

@@ -1,4 +1,4 @@
--- What a finder answers.
+-- The results of a finder.
 use Rattle.std.specs.Prelude.{◌≡◌, ℕ, length}
 use Rattle.msg_names.specs.declared.value.ClassRef.{ClassRef}
 use Rattle.msg_image.specs.Parts.{ImageParts, class_total}

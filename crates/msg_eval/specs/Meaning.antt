@@ -13,12 +13,12 @@ pub data Meaning : Type 0 where
   Ends : Reply → Meaning
   Asks : ClassRef → ℕ → (ℕ → Meaning) → Meaning
 
--- what follows a value, where so many lookups are left
+-- what follows a value, where this number of lookups are left
 abbrev pub Rest : Type 0
 Rest = Value → ℕ → Meaning
 
--- what the body of an implementation does for a receiver and arguments, where so many lookups are
--- left, and what follows its value
+-- what the body of an implementation does for a receiver and arguments, where this number of
+-- lookups are left, and what follows its value
 abbrev pub Bodies : Type 0
 Bodies = ℕ → Value → List Value → ℕ → Rest → Meaning
 

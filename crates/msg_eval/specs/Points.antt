@@ -18,7 +18,7 @@ abbrev pub Rise : History → List History → Type 0
 Rise h [] = Unit {0}
 Rise h (p ∷ ps) = BeginsWith p h × Rise p ps
 
--- the last of the points, or h where there are none
+-- the last of the points, or h if there are none
 abbrev pub last_of : History → List History → History
 last_of h [] = h
 last_of h (p ∷ ps) = last_of p ps
@@ -41,7 +41,7 @@ pub record EndsBetween (h now : History) (send : Meaning) (reply : Reply) : Type
   pub ends : EndsAfter send points reply
   pub last : now ≡ last_of h points
 
--- a send by tables that stay where they stand
+-- a send by tables that stay where they are
 abbrev pub TablesReply : TablesView → History → Meaning → Reply → Type 0
 TablesReply tables h send reply = RepliesFrom FindsAt (λ p. StandsAt tables (log p)) h send reply
 

@@ -12,15 +12,15 @@ abbrev pub Leads : {P : Type 0} → Steps P → Meaning → P → P → Reply �
 Leads step (Ends r) p q reply = (r ≡ reply) × (p ≡ q)
 Leads {P} step (Asks c s go) p q reply = (next : P) × (i : ℕ) × step p c s i next × Leads step (go i) next q reply
 
--- From p a part of a send comes to this result, with so many lookups left, in a state that the
--- finder is then in: what follows the result there leads to the reply of the whole.
+-- From p a part of a send comes to this result, with this number of lookups left, in a state that
+-- the finder is then in: what follows the result there leads to the reply of the whole.
 pub record Gives {P A : Type 0} (step : Steps P) (is_in : P → Type 0) (p : P) (part : (A → ℕ → Meaning) → Meaning) (result : Result A SendFault) (left : ℕ) : Type 0 where
   pub state : P
   pub there : is_in state
   pub follows : (k : A → ℕ → Meaning) (q : P) (reply : Reply) → Leads step (go_on result left k) state q reply → Leads step (part k) p q reply
 
 -- From each state that the finder was in, a part of a send comes to this result in a state that it
--- is then in, with so many lookups left.
+-- is then in, with this number of lookups left.
 abbrev pub Means : {F P A : Type 0} → Steps P → (F → P → Type 0) → F → F → ((A → ℕ → Meaning) → Meaning) → Result A SendFault → ℕ → Type 0
 Means {F} {P} {A} step is_in old new part result left = (p : P) → is_in old p → Gives step (is_in new) p part result left
 
@@ -47,6 +47,6 @@ pub record RepliesFrom {P : Type 0} (step : Steps P) (is_in : P → Type 0) (p :
   pub there : is_in state
   pub leads : Leads step send p state reply
 
--- so it does from each state that the finder was in
+-- the same from each state that the finder was in
 abbrev pub Replies : {F P : Type 0} → Steps P → (F → P → Type 0) → F → F → Meaning → Reply → Type 0
 Replies {F} {P} step is_in old new send reply = (p : P) → is_in old p → RepliesFrom step (is_in new) p send reply

@@ -1,7 +1,7 @@
 //! The evaluation of bodies.
 //!
-//! What evaluates a part of a send is a small function of its own, so that no frame on the stack
-//! has room for more than its part.
+//! Each function that evaluates a part of a send is small, so that no frame on the stack has room
+//! for more than its part.
 
 ghost use Rattle.std.specs.Prelude.{◌≡◌, ◌<◌, ◌≤◌, ◌+◌, length, List, [], IfOk};
 ghost use Rattle.arrayvec.specs.ArrayVec.{array_vec_len};
@@ -28,13 +28,13 @@ use crate::reply::{Reply, SendFault};
 use msg_image::{Expr, Image};
 use msg_names::{ClassRef, ImpRef, Selector, Value};
 
-/// How many lookups a send may make.
+/// The most lookups that a send may make.
 pub const MAX_LOOKUPS: u32 = 10_000;
 
-/// How many bodies may be active at once.
+/// The most bodies that may be active at once.
 pub const MAX_BODIES: u32 = 32;
 
-/// Sends a message, and evaluates the bodies that it comes to.
+/// Sends a message, and evaluates the bodies that it reaches.
 ///
 /// It takes no memory, and on the stack no more than the greatest depth of 32 bodies. Forwarding
 /// doesn't nest, however often it starts again.
@@ -98,10 +98,10 @@ fn eval_expr<F: Finder>(
 
 // Evaluates both operands, and operates on them.
 //
-// A leaf, as every second expression of a body is, is looked at before a call that might wait:
-// after each of those the compiled code has a test more. And a result that goes from one function
-// to the next is copied in other pieces than it was written in, for which the processor waits: so
-// this is inlined.
+// Every second expression of a body is a leaf. A leaf is looked at before a call that might wait,
+// because the compiled code has one more test after each such call. This function is inlined: a
+// result that goes from one function to the next would be copied in other pieces than it was
+// written in, and the processor waits for that.
 #[cycle(eval)]
 #[inline(always)]
 fn eval_two<F: Finder>(
@@ -253,7 +253,7 @@ fn eval_args<F: Finder>(
     Ok(())
 }
 
-// A message to a value.
+// Sends a message to a value.
 #[cycle(eval)]
 fn send_to<F: Finder>(
     finder: &mut F,
@@ -278,7 +278,7 @@ fn send_to<F: Finder>(
     }
 }
 
-// A super send of a body of this home class.
+// Makes a super send of a body with this home class.
 #[cycle(eval)]
 fn send_super<F: Finder>(
     finder: &mut F,
@@ -305,7 +305,7 @@ fn send_super<F: Finder>(
     dispatch(finder, message, me, class, above, left)
 }
 
-// Dispatches, with the first lookup begun at `from`, until a receiver has the method.
+// Dispatches until a receiver has the method. The first lookup begins at `from`.
 #[cycle(eval)]
 fn dispatch<F: Finder>(
     finder: &mut F,

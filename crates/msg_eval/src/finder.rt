@@ -1,4 +1,4 @@
-//! What answers the lookups of a send.
+//! The interface that answers the lookups of a send.
 
 ghost use Rattle.std.specs.Prelude.{◌≡◌, ◌<◌, ◌≤◌};
 ghost use Rattle.msg_names.specs.Number.{selector_number, imp_number};
@@ -9,12 +9,12 @@ use msg_tables::Tables;
 
 /// Looks methods up. Each lookup is a step from one state of the finder to another.
 pub trait Finder {
-    /// What no lookup changes.
+    /// The data that no lookup changes.
     ghost Kept: { Type 0 };
 
     ghost kept: { Self → Kept };
 
-    /// How many classes and implementations there are.
+    /// The numbers of classes and implementations.
     ghost sizes: { Kept → Sizes };
 
     /// A state: what the finder has seen, and what it has noted, if it notes anything.
@@ -22,10 +22,10 @@ pub trait Finder {
 
     ghost is_in: { Self → State → Type 0 };
 
-    /// Which numbers a lookup may return, and in which state the finder is then.
+    /// The numbers that a lookup may return, and the state of the finder after it.
     ghost step: { Steps State };
 
-    /// The implementation that a lookup finds, or forwarding.
+    /// Returns the implementation that a lookup finds, or forwarding.
     fn find(&mut self, class: ClassRef, sel: Selector) -> ImpRef
         requires { class.class < (sizes (kept self.old)).classes }
         ensures kept { kept self.new ≡ kept self.old }

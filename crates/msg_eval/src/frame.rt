@@ -1,4 +1,4 @@
-//! What a body sees, and a message on its way to one.
+//! What a body sees, and a message on its way to a body.
 
 ghost use Rattle.std.specs.Prelude.{◌≡◌, ◌<◌, ℕ, IfSome, length};
 ghost use Rattle.msg_image.specs.Parts.{ImageParts};
@@ -12,7 +12,7 @@ use msg_names::{ClassRef, Selector, Value};
 /// The arguments of a send.
 pub type Args = ArrayVec<Value, 4>;
 
-// What a body sees, and how many more bodies may be active in it.
+// What a body sees, and the number of further bodies that may be active in it.
 #[derive(Drop)]
 pub(crate) struct Frame<'a> {
     pub(crate) image: &'a Image,
@@ -25,7 +25,7 @@ pub(crate) struct Frame<'a> {
     pub(crate) ghost home_of: { home.class < length image.now.classes },
 }
 
-// The selector and the arguments, and how many more bodies may be active.
+// The selector, the arguments, and the number of further bodies that may be active.
 #[derive(Drop)]
 pub(crate) struct Message<'a> {
     pub(crate) image: &'a Image,

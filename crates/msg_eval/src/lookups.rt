@@ -1,4 +1,4 @@
-//! The lookups that a send has left.
+//! The number of lookups that a send may still make.
 
 ghost use Rattle.std.specs.Prelude.{◌≡◌, ◌<◌, ◌≤◌, IfOk};
 ghost use Rattle.msg_names.specs.Number.{selector_number, imp_number};

@@ -26,7 +26,8 @@ pub(crate) fn class_of(image: &Image, v: Value) -> Option<ClassRef>
     }
 }
 
-// The new receiver and its class, where the receiver was asked for a target and answered this one.
+// The new receiver and its class, if this is what the receiver returned when it was asked for a
+// target.
 pub(crate) fn new_receiver(
     image: &Image,
     me: Value,

@@ -13,7 +13,7 @@ pub enum Reply {
 #[derive(Clone, Copy, Debug, PartialEq, Eq)]
 pub enum SendFault {
     /// Neither the receiver's class nor a forwarding target has the method. The class is the
-    /// receiver's, after forwarding the last one's.
+    /// receiver's, or after forwarding that of the last target.
     Unrecognized { class: ClassRef, sel: Selector },
     NotAnObject,
     NotANumber,

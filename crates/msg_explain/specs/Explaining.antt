@@ -1,5 +1,5 @@
 -- What is said of a document.
-use Rattle.std.specs.Prelude.{◌⊎◌, ℕ, List, Option, Some, Ok}
+use Rattle.std.specs.Prelude.{◌≡◌, ◌⊎◌, ℕ, List, [], ◌∷◌, Option, Some, Ok, codes}
 use Rattle.msg_io.specs.Complaint.{complaint_line}
 use Rattle.msg_io.specs.Writing.{Starts, Writes}
 use Rattle.msg_io.specs.declared.complaint.Program.{Program}
@@ -16,6 +16,13 @@ TellsReasons contents old new bytes = (d : DocumentParts) × IsAnswer bytes (Ok 
 -- so they were of a run beside changes, whose lookups are answered at some versions
 abbrev pub TellsReasonsBeside : {S : Type 0} → (S → Option (List ℕ)) → S → S → List ℕ → Type 0
 TellsReasonsBeside contents old new bytes = (d : DocumentParts) × (versions : List ℕ) × IsAnswer bytes (Ok d) × Writes contents old new (beside_text d versions)
+
+-- so they were as the words of the command line ask: of a run between changes where there are none,
+-- of one beside changes where `beside` is the only one
+abbrev pub TellsAsked : {S : Type 0} → List (List ℕ) → (S → Option (List ℕ)) → S → S → List ℕ → Type 0
+TellsAsked [] contents old new bytes = TellsReasons contents old new bytes
+TellsAsked (word ∷ []) contents old new bytes = (word ≡ codes "beside") × TellsReasonsBeside contents old new bytes
+TellsAsked (word ∷ more ∷ rest) contents old new bytes = ⊥
 
 -- the line of a fault was written to a sink, or the start of it where a write failed
 abbrev pub SaysFault : {S : Type 0} → Program → (S → Option (List ℕ)) → S → S → DocumentFault → Type 0

@@ -1,4 +1,4 @@
-//! What is said of a document: where it is at fault, or why it is answered as it is.
+//! Explains a document: where its fault is, or why it has its answers.
 
 ghost use Rattle.std.specs.Prelude.{◌≡◌, ◌≢◌, ◌≤◌, ◌⊎◌, ℕ, List, false, length, Err, IfSome};
 ghost use Rattle.msg_io.specs.Reading.{IsSoundDocument};
@@ -27,13 +27,14 @@ use std::str;
 use std::sync::Wait;
 use std::thread::Threads;
 
-// So many places are told at most.
+// The most places that are listed.
 const MOST_PLACES: usize = 100;
 
-/// Says of a document that is refused why, as a run of it does, and then where: a line for each
-/// place. Of one that is answered it says the answers, and under each the lookups behind it.
+/// Explains a document. If it is refused, it writes why, as a run of it does, and then where: a
+/// line for each place. If it is answered, it writes the answers, and under each the lookups behind
+/// it.
 ///
-/// Answers the exit status: 0 for a document that is answered, 2 for one that is refused.
+/// Returns the exit status: 0 for a document that is answered, 2 for one that is refused.
 pub fn explain<R: Source, W: Sink, E: Sink>(
     alloc: Global,
     source: &mut R,
@@ -52,8 +53,8 @@ pub fn explain<R: Source, W: Sink, E: Sink>(
     explain_bytes(alloc, &bytes, sink, errors)
 }
 
-/// As [`explain`], of a run that makes the changes beside the sends: under each answer it says at
-/// which version each lookup was answered.
+/// Does the same as [`explain`] for a run that makes the changes while the sends are answered.
+/// Under each answer it also writes the version at which each lookup was answered.
 pub fn explain_beside<R: Source, W: Sink, E: Sink, T: Threads + Wait + Sync>(
     rt: &T,
     alloc: Global,
@@ -88,7 +89,7 @@ fn explain_bytes<W: Sink, E: Sink>(alloc: Global, bytes: &[u8], sink: &mut W, er
     }
 }
 
-/// Says the answers, and the lookups behind them.
+/// Writes the answers, and the lookups behind them.
 fn tell_reasons<W: Sink, E: Sink>(
     alloc: Global,
     document: Document,
@@ -101,12 +102,12 @@ fn tell_reasons<W: Sink, E: Sink>(
         → Writes W.contents sink.old sink.new (explanation_text (document_parts document)) }
 {
     match explain_document(alloc, &document) {
-        Ok(text) => say(sink, errors, &text, 0),
+        Ok(text) => say(Program::Msgrun, sink, errors, &text, 0),
         Err(AllocError) => complain(errors, Program::Msgrun, Some(&RunFault::Memory)),
     }
 }
 
-/// Says the answers of a run beside changes, and the lookups behind them.
+/// Writes the answers of a run beside changes, and the lookups behind them.
 fn tell_reasons_beside<W: Sink, E: Sink, T: Threads + Wait + Sync>(
     rt: &T,
     alloc: Global,
@@ -126,12 +127,12 @@ fn tell_reasons_beside<W: Sink, E: Sink, T: Threads + Wait + Sync>(
         Err(AllocError) => Err(AllocError),
     };
     match text {
-        Ok(text) => say(sink, errors, &text, 0),
+        Ok(text) => say(Program::Msgbeside, sink, errors, &text, 0),
         Err(AllocError) => complain(errors, Program::Msgbeside, Some(&RunFault::Memory)),
     }
 }
 
-/// Says the fault, and where it is.
+/// Writes the fault, and where it is.
 fn refuse<W: Sink, E: Sink>(
     alloc: Global,
     bytes: &[u8],
@@ -146,24 +147,30 @@ fn refuse<W: Sink, E: Sink>(
 {
     let status = complain(errors, program, Some(&RunFault::from(fault)));
     match places_text(alloc, bytes, fault) {
-        Ok(text) => say(sink, errors, &text, status),
+        Ok(text) => say(program, sink, errors, &text, status),
         Err(AllocError) => complain(errors, program, Some(&RunFault::Memory)),
     }
 }
 
-/// Writes a text, and answers the status if it is written.
-fn say<W: Sink, E: Sink>(sink: &mut W, errors: &mut E, text: &[u8], status: u8) -> u8
+/// Writes a text, and returns the status if it is written.
+fn say<W: Sink, E: Sink>(
+    program: Program,
+    sink: &mut W,
+    errors: &mut E,
+    text: &[u8],
+    status: u8,
+) -> u8
     ensures status { (result ≡ status) ⊎ (result ≡ 1) }
     ensures same { result ≢ 1 → errors.new ≡ errors.old }
     ensures said { result ≢ 1 → Writes W.contents sink.old sink.new text.now }
 {
     match write_whole(sink, text) {
         Ok(()) => status,
-        Err(_) => complain(errors, Program::Msgrun, Some(&RunFault::Write)),
+        Err(_) => complain(errors, program, Some(&RunFault::Write)),
     }
 }
 
-/// Where the JSON ends to be JSON, or the places that have the fault, a line for each.
+/// Lists where the text stops being JSON, or the places that have the fault, a line for each.
 fn places_text(alloc: Global, bytes: &[u8], fault: DocumentFault) -> Result<Vec<u8>, AllocError> {
     let mut text = Vec::new(alloc);
     match fault {
@@ -219,7 +226,7 @@ fn push_places(
     Ok(())
 }
 
-/// The places that have the fault.
+/// Lists the places that have the fault.
 fn places_of<'t, 'b>(
     alloc: Global,
     bump: &'t Bump,

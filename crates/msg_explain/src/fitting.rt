@@ -1,4 +1,4 @@
-//! Whether a value is what is wanted, by the reader of documents.
+//! Whether a value has the form that is expected, by the reader of documents.
 
 ghost use Rattle.std.specs.Prelude.{◌≡◌, is_some, map, IfOk, OnOk};
 ghost use Rattle.std.specs.List.{list_all};
@@ -16,7 +16,7 @@ use msg_form::{
 use msg_json::{Bump, Tree, whole};
 use std::alloc::{AllocError, Global};
 
-/// Whether the value is what is wanted.
+/// Whether the value has the form that is expected.
 #[tactic(auto, unfolding(crate::specs::Fitting::fits))]
 pub fn fits<'v>(
     alloc: Global,

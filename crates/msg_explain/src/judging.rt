@@ -25,15 +25,15 @@ use msg_json::{Bump, Tree};
 use msg_names::is_selector_name;
 use std::alloc::{AllocError, Global};
 
-/// A fault of a document, and what is needed to see which values have it.
+/// A fault of a document, and the data by which it is found in values.
 #[derive(Drop)]
 pub(crate) struct Judge<'j, 't> {
     pub(crate) alloc: Global,
-    /// Keeps what is read of the values that are judged.
+    /// The arena of what is read of the values that are judged.
     pub(crate) bump: &'t Bump,
     pub(crate) form: &'j Form<'t>,
     pub(crate) names: &'j FormNames<'t>,
-    /// The names that are given, where the fault is that one is given twice.
+    /// The names that are given, if the fault is that one is given twice.
     pub(crate) given: &'j [&'t str],
     pub(crate) fault: DocumentFault,
     pub(crate) ghost names_of: { AreNamesOf names.now (form_view form.now) },
@@ -41,7 +41,7 @@ pub(crate) struct Judge<'j, 't> {
 }
 
 impl<'t> Judge<'_, 't> {
-    /// Whether the value, which is wanted there, has the fault.
+    /// Whether the value, which has the expected form, has the fault.
     pub(crate) fn has_fault(&self, wanted: Wanted, value: &Tree<'t, '_>) -> Result<bool, AllocError>
         ensures { IfOk result (λ b. b ≡ spec.has_fault (form_view self.now.form.now)
             self.now.fault wanted (view value.now)) }
@@ -70,7 +70,7 @@ impl<'t> Judge<'_, 't> {
         }
     }
 
-    /// What the value spells, if it spells such a part.
+    /// Reads the value, if it spells such a part.
     fn read<T: FromValue<'t>>(&self, value: &Tree<'t, '_>) -> Result<Option<T>, AllocError>
         ensures { IfOk result (λ o. option_map T.plain o ≡ T.spelled (view value.now)) }
     {
@@ -160,7 +160,7 @@ impl<'t> Judge<'_, 't> {
         }
     }
 
-    /// Whether a method of a root class sends to super.
+    /// Whether a method of a root class has a super send.
     fn sends_above(&self, imp: &Imp) -> bool
         ensures { result ≡ judge.sends_above
             (root_names (form_view self.now.form.now)) (imp_view imp.now) }
@@ -298,7 +298,7 @@ fn is_miscounted(imps: &[Imp], pair: &Pair) -> bool
     }
 }
 
-/// How many arguments the implementation of a name takes.
+/// The number of arguments that the implementation with a name takes.
 fn args_named(imps: &[Imp], name: &str) -> Option<u8>
     ensures { result ≡ judge.args_named (imps_view imps.now) name.now }
 {

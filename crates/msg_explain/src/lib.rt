@@ -1,9 +1,9 @@
 //! Where the fault of a document is.
 //!
-//! [`misplaced`] goes down a JSON value as the format's table tells, and finds the places whose
-//! value isn't what the format wants there, though each of its parts is. [`faulty`] goes down one
-//! that has the form, and finds the places whose value has the fault that the document is refused
-//! for.
+//! [`misplaced`] walks down a JSON value by the format's table. It finds the places whose value
+//! doesn't have the form that the format expects there, though each of its parts does. [`faulty`]
+//! walks down a value that has the form. It finds the places whose value has the fault for which
+//! the document is refused.
 #![tactic(auto)]
 
 mod explaining;

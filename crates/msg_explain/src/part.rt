@@ -1,6 +1,7 @@
-//! What may stand in a document.
+//! The parts that a document may have.
 
-/// Whose form a document has: that of a version other than 2 and 3 has the form of the first.
+/// The version whose form a document has. A document of a version other than 2 and 3 has the form
+/// of the first.
 #[derive(Clone, Copy, Debug, PartialEq, Eq)]
 pub enum Edition {
     First,
@@ -8,7 +9,7 @@ pub enum Edition {
     Third,
 }
 
-/// What a name is the name of.
+/// The kind of thing that a name names.
 #[derive(Clone, Copy, Debug, PartialEq, Eq)]
 pub enum Naming {
     /// A class that gets the name, listed or made.
@@ -43,12 +44,12 @@ pub enum Part {
     /// An entry of a method list of a category that is attached.
     Attached,
     Truth,
-    /// How many arguments an implementation takes.
+    /// The number of arguments that an implementation takes.
     Args,
     Body,
-    /// What stands behind `send`.
+    /// The value after `send`.
     Send,
-    /// What stands behind `change`.
+    /// The value after `change`.
     Changes(Edition),
     /// A change among those that are made as one.
     Change,
@@ -58,10 +59,10 @@ pub enum Part {
     Index,
 }
 
-/// What is wanted at a place.
+/// What is expected at a place.
 #[derive(Clone, Copy, Debug, PartialEq, Eq)]
 pub enum Wanted {
     One(Part),
-    /// A list of them.
+    /// A list of such parts.
     Many(Part),
 }

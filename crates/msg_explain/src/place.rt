@@ -10,7 +10,7 @@ pub enum Step {
     Place(usize),
 }
 
-/// A place whose value isn't what is wanted there.
+/// A place whose value doesn't have the form that is expected there.
 #[derive(Drop)]
 pub struct Place<'t, 'b> {
     /// The steps from the document to the value.

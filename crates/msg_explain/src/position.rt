@@ -1,6 +1,7 @@
-//! Where in a text a value begins.
+//! The position in a text at which a value begins.
 
-ghost use Rattle.std.specs.Prelude.{◌≤◌, length};
+ghost use Rattle.std.specs.Prelude.{◌≡◌, ◌≤◌, IfSome, count_by, length, not, reverse, take_while};
+ghost use Rattle.msg_explain.specs.Positions as spec;
 
 use crate::place::Step;
 use crate::search::last;
@@ -8,7 +9,7 @@ use json::Reader;
 use msg_json::{Scratch, Tree};
 use std::str;
 
-// Deeper than any value that is read.
+// A depth greater than that of any value that is read.
 const DEPTH: usize = 128;
 
 /// A line and a column, each from 1. A column is a character.
@@ -18,31 +19,35 @@ pub struct Position {
     pub column: usize,
 }
 
-/// Where the value at a path begins, in the text that the document was read from.
+/// Returns where the value at a path begins, in the text from which the document was read.
 pub fn position_of(
     text: &str,
     scratch: &mut Scratch,
     document: &Tree<'_, '_>,
     path: &[Step],
-) -> Option<Position> {
+) -> Option<Position>
+    ensures { IfSome result (spec.IsPositionIn text.now) }
+{
     let mut reader = Reader::new(text, scratch).ok()?;
     seek(&mut reader, document, path)?;
     let bytes = text.as_bytes();
     Some(position_at(bytes, first_other(bytes, reader.offset())))
 }
 
-/// Where a reader of the text stops: at what is no JSON, or behind it where that is known only
-/// then. It passes over a number that is too great.
-pub fn end_of_json(bytes: &[u8], scratch: &mut Scratch) -> Option<Position> {
+/// Returns where a reader of the text stops: at what is no JSON, or after it if only that shows it.
+/// The reader skips a number that is too great.
+pub fn end_of_json(bytes: &[u8], scratch: &mut Scratch) -> Option<Position>
+    ensures { IfSome result (spec.IsPositionIn bytes.now) }
+{
     let text = str::from_utf8(bytes).ok()?;
     let mut reader = Reader::new(text, scratch).ok()?;
     if reader.skip_value(DEPTH).is_ok() && reader.next().is_none() {
         return None;
     }
-    Some(position_at(bytes, reader.offset()))
+    Some(position_at(bytes, reader.offset().min(bytes.len())))
 }
 
-/// Passes over what stands before the value at a path.
+/// Skips what comes before the value at a path.
 fn seek(reader: &mut Reader<'_>, document: &Tree<'_, '_>, path: &[Step]) -> Option<()> {
     let mut value = *document;
     for step in path {
@@ -86,7 +91,7 @@ fn pass_values(reader: &mut Reader<'_>, count: usize) -> Option<()> {
     Some(())
 }
 
-/// Passes over so many members, and the key of the next.
+/// Skips this number of members, and the key of the next.
 fn pass_members(reader: &mut Reader<'_>, count: usize) -> Option<()> {
     for _ in 0..count {
         reader.next_key().ok()?;
@@ -108,23 +113,50 @@ fn first_other(bytes: &[u8], from: usize) -> usize
     bytes.len()
 }
 
-fn position_at(bytes: &[u8], at: usize) -> Position {
-    let before = &bytes[..at.min(bytes.len())];
-    let line = before.iter().filter(|byte| **byte == b'\n').count() + 1;
-    let column = before
-        .iter()
+fn position_at(bytes: &[u8], at: usize) -> Position
+    requires { at ≤ length bytes.now }
+    ensures { result ≡ spec.position_at bytes.now at }
+{
+    let before = &bytes[..at];
+    Position {
+        line: lines_in(before) + 1,
+        column: characters_at_end(before) + 1,
+    }
+}
+
+/// The number of lines that end in a text.
+fn lines_in(text: &[u8]) -> usize
+    ensures count { result ≡ count_by spec.ends_line text.now }
+    ensures few { result ≤ length text.now }
+{
+    text.iter().filter(|byte| ends_line(**byte)).count()
+}
+
+/// The number of characters that begin after the last line that ends in a text.
+fn characters_at_end(text: &[u8]) -> usize
+    ensures count { result ≡ count_by spec.begins_character
+        (take_while (λ byte. not (spec.ends_line byte)) (reverse text.now)) }
+    ensures few { result ≤ length text.now }
+{
+    text.iter()
         .rev()
-        .take_while(|byte| **byte != b'\n')
+        .take_while(|byte| !ends_line(**byte))
         .filter(|byte| begins_character(**byte))
         .count()
-        + 1;
-    Position { line, column }
+}
+
+fn ends_line(byte: u8) -> bool
+    ensures { result ≡ spec.ends_line byte }
+{
+    byte == b'\n'
 }
 
 fn is_between(byte: u8) -> bool {
     matches!(byte, b' ' | b'\t' | b'\n' | b'\r' | b',' | b':')
 }
 
-fn begins_character(byte: u8) -> bool {
+fn begins_character(byte: u8) -> bool
+    ensures { result ≡ spec.begins_character byte }
+{
     byte & 0xC0 != 0x80
 }

@@ -1,4 +1,4 @@
-//! The search for what isn't as the format wants it.
+//! The search for values that don't have the form of the format.
 
 ghost use Rattle.std.specs.Prelude.{◌≡◌, ◌≢◌, ◌≤◌, ◌<◌, ◌++◌, [], ◌∷◌, false, true, length, map, Some, None, IfOk, OnOk, IfSome, option_map, option_and_then, slice_get};
 ghost use Rattle.std.specs.List.{All};
@@ -17,7 +17,7 @@ use crate::tables::{at_place, edition, keys};
 use msg_json::{Bump, Tree};
 use std::alloc::{AllocError, Global};
 
-/// What a search goes through, and where its readings are kept.
+/// The data of a search, and the arena of what it reads.
 #[derive(Drop)]
 struct Whole<'t, 'b> {
     alloc: Global,
@@ -26,10 +26,11 @@ struct Whole<'t, 'b> {
     wanted: Wanted,
 }
 
-/// The places whose values aren't what the format wants there, though each of their parts is. There
-/// is one at least where the value spells no document, and else none.
+/// Returns the places whose values don't have the form that the format expects there, though each
+/// of their parts does. If the value spells no document there is at least one, and otherwise there
+/// is none.
 ///
-/// `bump` keeps what is read on the way, in the order of the document for each level.
+/// `bump` keeps what is read on the way. Each level takes memory in proportion to the document.
 #[tactic(auto, unfolding(crate::specs::Fitting::fits, crate::specs::Fitting::is_part))]
 pub fn misplaced<'t, 'b>(
     alloc: Global,
@@ -57,7 +58,7 @@ pub fn misplaced<'t, 'b>(
     Ok(told)
 }
 
-/// Goes down a value that isn't what is wanted, and tells the places.
+/// Walks down a value that doesn't have the expected form, and lists the places.
 #[cycle(look)]
 fn look<'t, 'b>(
     value: &Tree<'t, 'b>,
@@ -171,7 +172,7 @@ fn look_at_keys<'t, 'b>(
     Ok(())
 }
 
-/// Goes down a part, if it isn't what is wanted.
+/// Walks down a part, if it doesn't have the expected form.
 #[cycle(look)]
 fn look_into<'t, 'b>(
     value: &Tree<'t, 'b>,
@@ -213,7 +214,7 @@ pub(crate) fn word_of<'t>(values: &[Tree<'t, '_>]) -> &'t str
     }
 }
 
-/// The index of the last member of a key.
+/// The index of the last member with a key.
 pub(crate) fn last(members: &[(&str, Tree<'_, '_>)], key: &str) -> Option<usize>
     ensures inside { IfSome result (λ i. i < length members.now) }
     ensures value { get_member key.now (members_view members.now) ≡ option_and_then

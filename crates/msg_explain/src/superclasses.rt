@@ -1,4 +1,4 @@
-//! Whether a class has the superclass that it says.
+//! Whether a class has the superclass that it names.
 
 ghost use Rattle.std.specs.Prelude.{◌≡◌, option_map};
 ghost use Rattle.msg_form.specs.FormNames.{AreNamesOf};
@@ -8,7 +8,7 @@ ghost use Rattle.msg_explain.specs.Judging as spec;
 
 use msg_form::{Class, Form, FormNames, makes_classes};
 
-/// Whether the class's superclass isn't listed, or in version 1 not before it.
+/// Whether the class's superclass isn't listed, or in version 1 isn't listed before it.
 pub(crate) fn has_no_superclass(form: &Form, names: &FormNames, class: &Class) -> bool
     requires { AreNamesOf names.now (form_view form.now) }
     ensures { result ≡ spec.has_other_superclass (form_view form.now) (class_view class.now) }
@@ -20,7 +20,7 @@ pub(crate) fn has_no_superclass(form: &Form, names: &FormNames, class: &Class) -
     }
 }
 
-/// Whether a superclass isn't listed before the class of the name.
+/// Whether a superclass isn't listed before the class with the name.
 fn is_late(classes: &[Class], name: &str, superclass: &str) -> bool
     ensures { result ≡ is_unknown
         (spec.names_before name.now (classes_view classes.now)) superclass.now }
@@ -36,8 +36,8 @@ fn is_late(classes: &[Class], name: &str, superclass: &str) -> bool
     true
 }
 
-/// Whether the class is met on the way up from it. Takes a walk over the classes for each class
-/// that is met.
+/// Whether the way up from the class comes back to it. It takes a walk over the classes for each
+/// class on the way.
 pub(crate) fn is_above_itself(classes: &[Class], class: &Class) -> bool
     ensures { result ≡ spec.is_above_itself (classes_view classes.now) (class_view class.now) }
 {
@@ -54,7 +54,7 @@ pub(crate) fn is_above_itself(classes: &[Class], class: &Class) -> bool
     false
 }
 
-/// The superclass of the first class of a name.
+/// The superclass of the first class with a name.
 fn superclass_named<'t>(classes: &[Class<'t>], name: &str) -> Option<&'t str>
     ensures { option_map (λ s. s.now) result
         ≡ spec.superclass_named (classes_view classes.now) name.now }

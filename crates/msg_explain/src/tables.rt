@@ -1,4 +1,4 @@
-//! What is wanted at the keys and places of a part, as the format's table has them.
+//! What is expected at the keys and places of a part, as in the format's table.
 
 ghost use Rattle.std.specs.Prelude.{◌≡◌, ◌≤◌, map};
 ghost use Rattle.msg_json.specs.View.{view};
@@ -8,7 +8,7 @@ ghost use Rattle.msg_explain.specs.declared.part.Part.TheVariants as part;
 use crate::part::{Edition, Naming, Part, Wanted};
 use msg_json::{Tree, get, whole};
 
-/// A key, and what is wanted there.
+/// A key, and what is expected there.
 pub type Key = (&'static str, Wanted);
 
 const NEW_CLASS: Part = Part::Name(Naming::NewClass);
@@ -19,7 +19,7 @@ const CLASS: Wanted = Wanted::One(Part::Name(Naming::Class));
 
 const PAIRS: Wanted = Wanted::Many(Part::Pair);
 
-/// The keys of what is wanted, in the order of the format's table.
+/// The keys of what is expected, in the order of the format's table.
 pub fn keys(wanted: Wanted) -> &'static [Key]
     ensures { map spec.key_view result.now ≡ spec.keys wanted }
 {
@@ -104,7 +104,7 @@ fn item_keys(edition: Edition) -> &'static [Key]
     }
 }
 
-/// What is wanted at a place of a list that begins with the word.
+/// What is expected at a place of a list that begins with the word.
 pub fn at_place(wanted: Wanted, word: &str, place: usize) -> Option<Wanted>
     ensures { result ≡ spec.at_place wanted word.now place }
 {
@@ -126,7 +126,7 @@ pub fn at_place(wanted: Wanted, word: &str, place: usize) -> Option<Wanted>
     }
 }
 
-/// What is wanted at the only place behind a word.
+/// What is expected at the only place after a word.
 fn only(part: Part, place: usize) -> Option<Wanted>
     ensures { result ≡ spec.only part place }
 {
@@ -144,7 +144,7 @@ fn at_constant(word: &str, place: usize) -> Option<Wanted>
     }
 }
 
-/// What is wanted at a place of a body that begins with the word.
+/// What is expected at a place of a body that begins with the word.
 #[tactic(auto, unfolding(msg_form::specs::ExprShape::operator_of))]
 fn at_body(word: &str, place: usize) -> Option<Wanted>
     ensures { result ≡ spec.at_body word.now place }
@@ -162,14 +162,14 @@ fn at_body(word: &str, place: usize) -> Option<Wanted>
     }
 }
 
-/// Bodies at so many places behind the word.
+/// Bodies at this number of places after the word.
 fn bodies(count: usize, place: usize) -> Option<Wanted>
     ensures { result ≡ spec.bodies count place }
 {
     (1 <= place && place <= count).then_some(Wanted::One(Part::Body))
 }
 
-/// A selector at a place, and bodies behind it.
+/// A selector at a place, and bodies after it.
 fn arguments(selector: usize, place: usize) -> Option<Wanted>
     ensures { result ≡ spec.arguments selector place }
 {

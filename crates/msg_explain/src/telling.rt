@@ -1,4 +1,4 @@
-//! How a place is told.
+//! The lines of places.
 
 ghost use Rattle.std.specs.Prelude.{◌≡◌, ◌++◌, OnOk};
 ghost use Rattle.msg_io.specs.Writing.{Gains};
@@ -13,7 +13,7 @@ use msg_io::push_digits;
 use msg_json::{Tree, get};
 use std::alloc::AllocError;
 
-// So many bytes of a text are shown.
+// The number of bytes of a text that are shown.
 const SHOWN_BYTES: usize = 64;
 
 fn push(text: &mut Vec<u8>, words: &str) -> Result<(), AllocError>
@@ -63,7 +63,7 @@ pub fn push_path(text: &mut Vec<u8>, path: &[Step]) -> Result<(), AllocError>
     }
 }
 
-/// Appends what is wanted at a place, where the document has the fault, and what was found.
+/// Appends what is expected at a place that has the fault, and what was found.
 pub(crate) fn push_reason(
     text: &mut Vec<u8>,
     place: &Place<'_, '_>,
@@ -101,7 +101,7 @@ fn push_name(text: &mut Vec<u8>, found: &Tree<'_, '_>) -> Result<(), AllocError>
     }
 }
 
-/// What is said of a limit.
+/// The text of a limit.
 fn limit_text(wanted: Wanted) -> &'static str {
     match wanted {
         Wanted::Many(Part::Class) => "no more than 1024 classes, listed and made",
@@ -114,7 +114,7 @@ fn limit_text(wanted: Wanted) -> &'static str {
     }
 }
 
-/// What is said of what a fault forbids.
+/// The text of what a fault forbids.
 fn rule_text(fault: DocumentFault, wanted: Wanted) -> &'static str {
     match fault {
         DocumentFault::Version => "version 1, 2 or 3",
@@ -143,7 +143,7 @@ fn rule_text(fault: DocumentFault, wanted: Wanted) -> &'static str {
     }
 }
 
-/// What is said of what is wanted, in the letters of the format's page.
+/// The text of what is expected, in the letters of the format's page.
 fn wanted_text(wanted: Wanted) -> &'static str {
     match wanted {
         Wanted::Many(_) => "a list",
@@ -205,7 +205,7 @@ fn push_list(text: &mut Vec<u8>, values: &[Tree<'_, '_>]) -> Result<(), AllocErr
     Ok(())
 }
 
-/// Appends the start of a text, in quotes. A byte that isn't ASCII's to print is shown as `?`.
+/// Appends the start of a text, in quotes. A byte that isn't printable ASCII is shown as `?`.
 fn push_quoted(text: &mut Vec<u8>, words: &str) -> Result<(), AllocError> {
     push(text, "\"")?;
     for byte in words.as_bytes().iter().take(SHOWN_BYTES) {
@@ -238,7 +238,7 @@ fn push_lacking(text: &mut Vec<u8>, place: &Place<'_, '_>) -> Result<(), AllocEr
     Ok(())
 }
 
-/// Appends the keys that an object has too many.
+/// Appends the keys that an object should not have.
 fn push_others(
     text: &mut Vec<u8>,
     wanted: Wanted,

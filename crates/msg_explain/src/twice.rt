@@ -9,7 +9,7 @@ ghost use Rattle.msg_explain.specs.Judging as spec;
 use msg_form::{DocumentFault, Form};
 use std::alloc::{AllocError, Global};
 
-/// Whether the text stands twice among the texts.
+/// Whether the text occurs twice among the texts.
 pub(crate) fn stands_twice(texts: &[&str], text: &str) -> bool
     ensures { result ≡ spec.stands_twice (texts_view texts.now) text.now }
 {
@@ -25,7 +25,7 @@ pub(crate) fn stands_twice(texts: &[&str], text: &str) -> bool
     false
 }
 
-/// The names that are given, of those that the fault speaks of.
+/// The names that are given, of the kind that the fault is about.
 pub(crate) fn names_given<'t>(
     alloc: Global,
     form: &Form<'t>,

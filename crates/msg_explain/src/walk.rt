@@ -21,7 +21,7 @@ use msg_form::{DocumentFault, Form, FormNames};
 use msg_json::{Bump, Tree};
 use std::alloc::{AllocError, Global};
 
-/// What a walk goes through.
+/// The data of a walk.
 #[derive(Drop)]
 pub(crate) struct Walk<'j, 't, 'b> {
     judge: Judge<'j, 't>,
@@ -29,12 +29,12 @@ pub(crate) struct Walk<'j, 't, 'b> {
     wanted: Wanted,
 }
 
-/// The places of a document whose values have the fault, in the order of the format's table. The
-/// form and the names are those of the document.
+/// Returns the places of a document whose values have the fault, in the order of the format's
+/// table. The form and the names are those of the document.
 ///
-/// `bump` keeps what is read on the way, of bodies in the order of the document for each level. A
-/// name is looked up in the form's sets, but one that is given twice and the implementation of a
-/// pair by a walk over the form's list.
+/// `bump` keeps what is read on the way. Of bodies each level takes memory in proportion to the
+/// document. A name is looked up in the form's sets. Two kinds are found by a walk over the form's
+/// list: a name that is given twice, and the implementation of a pair.
 pub fn faulty<'t, 'b>(
     alloc: Global,
     bump: &'t Bump,
@@ -91,7 +91,7 @@ fn walk_value<'t, 'b>(
     walk_parts(value, wanted, walk, path, told)
 }
 
-/// Tells the place, if its value has the fault.
+/// Lists the place, if its value has the fault.
 fn judge_value<'t, 'b>(
     value: &Tree<'t, 'b>,
     wanted: Wanted,

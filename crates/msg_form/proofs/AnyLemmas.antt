@@ -1,4 +1,4 @@
--- Whether an element of a list passes a test, where the list is made from others.
+-- Whether an element of a list passes a test, if the list is made from others.
 use Rattle.std.proofs.Common.{◌≡◌, Bool, true, false, ◌||◌, List, [], ◌∷◌, ◌++◌, map, Bor, refl, sym, ap, ◌∙◌}
 use Rattle.std.specs.List.{flat_map, list_any}
 use Rattle.std.proofs.lemmas.List.Folds.{list_any-append}
@@ -33,7 +33,7 @@ found p xs ys r is there = let here : list_any p xs ≡ true = sym is ∙ there 
 pub not_found : {A : Type 0} (p : A → Bool) (xs ys : List A) (r s : Bool) → r ≡ list_any p xs → r ≡ false → s ≡ list_any p ys → s ≡ list_any p (xs ++ ys)
 not_found p xs ys r s is none e = let here : list_any p xs ≡ false = sym is ∙ none in sym (list_any-append p xs ys ∙ ap (λ b. b || list_any p ys) here ∙ sym e)
 
--- the first of two tests is met, or is not, so that the other decides
+-- the first of two tests passes, or it doesn't and the other decides
 pub first_met : (a b r whole : Bool) → whole ≡ (a || b) → r ≡ a → r ≡ true → r ≡ whole
 first_met a b r whole either is met = met ∙ sym (either ∙ ap (λ x. x || b) (sym is ∙ met))
 

@@ -1,4 +1,4 @@
--- The changes of an item, as they stand in the program.
+-- The changes of an item in the program.
 use Rattle.std.proofs.Common.{◌≡◌, ◌≢◌, Bool, List, Bor, refl, sym, ap, ◌∙◌}
 use Rattle.std.specs.List.{flat_map, list_any}
 use Rattle.std.proofs.lemmas.List.Folds.{flat_map-map}
@@ -24,7 +24,7 @@ texts_of_changes (Send r s args) cs none are = absurd (none r s args refl)
 texts_of_changes (Change c) cs none are = in_changes change_texts (Change c) cs are
 texts_of_changes (ChangeAll all) cs none are = in_changes change_texts (ChangeAll all) cs are
 
--- and names the classes of its changes
+-- an item that is no send names the classes of its changes
 pub classes_of_changes : (p : Text → Bool) (item : Item) (cs : List TheChange) (r : Bool) → ((r : Constant) (s : Bor Text) (args : Bor (List Constant)) → item ≢ Send r s args) → changes_view cs ≡ changes_of (item_view item)
     → r ≡ list_any (λ c. list_any p (change_classes (change_view c))) cs → r ≡ list_any p (item_classes (item_view item))
 classes_of_changes p (Send r s args) cs b none are e = absurd (none r s args refl)

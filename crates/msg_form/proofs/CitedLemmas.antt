@@ -11,11 +11,11 @@ use Rattle.msg_form.specs.declared.form.Form.{Form}
 use Rattle.msg_form.proofs.AnyLemmas.{list_any-map, list_any-flat_map}
 use Rattle.msg_form.proofs.BodyLemmas.{is_unknown-distinct}
 
--- the classes of categories and implementations, as they stand in the program
+-- the classes of categories and implementations, in the program
 pub any_home : (p : Text → Bool) (f : Form) → list_any p (home_classes (form_view f)) ≡ (list_any (λ c. p c.class.now) f.categories.items || list_any (λ i. p i.class.now) f.imps.items)
 any_home p f = simp (list_any-append, list_any-map)
 
--- the classes that objects and items name, as they stand in the program
+-- the classes that objects and items name, in the program
 pub any_other : (p : Text → Bool) (f : Form) → list_any p (other_classes (form_view f)) ≡ (list_any (λ o. p o.class.now) f.objects.items || list_any (λ i. list_any p (item_classes (item_view i))) f.items.items)
 any_other p f = simp (list_any-append, list_any-map, list_any-flat_map)
 
@@ -39,7 +39,7 @@ module _ (f : form.Form) (bodies : Bool) (in_bodies : bodies ≡ list_any (is_un
       let there : list_any (is_unknown (listed_names f)) (home_classes f) ≡ true = ap (λ p. list_any p (home_classes f)) (sym (ap is_unknown is ∙ is_unknown-distinct (listed_names f))) ∙ sym e ∙ met in
       or-true (list_any (is_unknown (class_names f)) (body_classes f ++ other_classes f)) ∙ ap (λ b. list_any (is_unknown (class_names f)) (body_classes f ++ other_classes f) || b) (sym there)
 
-  -- neither; what is left are objects and items
+  -- neither; objects and items are left
   pub unknown-elsewhere : (listed classes : List Text) (homes others : Bool) → bodies ≡ false → listed ≡ distinct (listed_names f) → homes ≡ list_any (is_unknown listed) (home_classes f) → homes ≡ false
       → classes ≡ distinct (class_names f) → others ≡ list_any (is_unknown classes) (other_classes f) → others ≡ has_unknown_class f
   unfolding has_unknown_class

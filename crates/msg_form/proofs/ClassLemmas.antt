@@ -26,7 +26,7 @@ class_names-added f cs made old first all listed rest e g =
     let grown : first ≡ fold with_name old (listed_names (form_view f)) = e ∙ ap (fold with_name old) (same_names f cs listed) in
     g ∙ (λ i. fold with_name (grown i) (texts_view (rest i))) ∙ sym (fold-append old (listed_names (form_view f)) (texts_view f.made.items))
 
--- a name stands twice among both, or is one of those before
+-- a name occurs twice among both, or is one of those before
 pub repeated_names : (f : Form) (cs : List Class) (made : List (Bor Text)) (old first : List Text) (a b : Bool) → cs ≡ f.classes.items → made ≡ f.made.items → a ≡ repeats old (map (λ c. c.name.now) cs)
     → first ≡ fold with_name old (map (λ c. c.name.now) cs) → b ≡ repeats first (texts_view made) → (a || b) ≡ repeats old (class_names (form_view f))
 repeated_names f cs made old first a b listed rest e put g =
@@ -42,7 +42,7 @@ is_outside-same : (ms ns : List Text) (superclass : Option Text) → ((q : Text)
 is_outside-same ms ns None same = refl
 is_outside-same ms ns (Some name) same = ap not (same name)
 
--- only which names there are counts, and not their order
+-- only the set of names counts, and not their order
 late-same : (ms ns : List Text) (cs : List ClassForm) → ((q : Text) → is_among q ms ≡ is_among q ns) → has_late_superclass ms cs ≡ has_late_superclass ns cs
 late-same ms ns [] same = refl
 late-same ms ns (c ∷ cs) same =

@@ -50,7 +50,7 @@ at_place (i ∷ imps) name = at_test (bytes_eq name i.name) (at_place imps name)
     at_test true e = refl
     at_test false e = further i imps (place_of (map (λ (j : ImpForm). j.name) imps) name) ∙ e
 
--- where the names are those of the implementations, the place tells the first of a name
+-- if the names are those of the implementations, the place gives the first with a name
 pub args_at-names : (imps : List ImpForm) (name : Text) → args_at (map (λ (i : ImpForm). i.name) imps) imps name ≡ args_named imps name
 args_at-names imps name =
     let names = map (λ (i : ImpForm). i.name) imps in

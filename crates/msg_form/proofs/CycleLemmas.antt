@@ -18,13 +18,13 @@ use Rattle.msg_form.proofs.TextLemmas.{length-distinct}
 abbrev pub superclass_number : List Text → Class → Option ℕ
 superclass_number names c = option_map (number_among names) (option_map (λ s. s.now) c.superclass)
 
--- those of all classes are those of the form
+-- the superclasses of all classes are those of the form
 pub superclasses-are : (cs : List Class) (names : List Text) (found : List (Option ℕ)) → names ≡ distinct (map (λ (d : ClassForm). d.name) (map class_view cs)) → found ≡ map (superclass_number names) cs → found ≡ superclasses_of (map class_view cs)
 superclasses-are cs names found is all =
     all ∙ ap (λ ns. map (superclass_number ns) cs) is
     ∙ sym (map-map (λ (c : ClassForm). option_map (number_among (distinct (map (λ (d : ClassForm). d.name) (map class_view cs)))) c.superclass) class_view cs)
 
--- a number is one of so many, where there are as many names at most
+-- the number of a name is below n, if there are at most n names
 number-within : (names : List Text) (n : ℕ) (t : Text) → length names ≤ n → 0 < n → number_among names t < n
 number-within names n t most some = at (number_of names t) refl
   where

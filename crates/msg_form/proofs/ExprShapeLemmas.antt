@@ -46,7 +46,7 @@ reading_is vs i v lt there = ap (λ o. o >>= λ e. e) (reading_there vs i v lt t
 so_many : (vs : List Tree) (n : ℕ) → length vs ≡ n → (length (map expression_of (map view vs)) == n) ≡ true
 so_many vs n e = eq-eqb (length (map expression_of (map view vs))) n (length-map (map view vs) expression_of ∙ length-map vs view ∙ e)
 
--- where there are so many values, and the first expression was read, what is left to read decides
+-- if there are n values and the first expression was read, the rest decides
 pub binary_left : (operator : Operator) (vs : List Tree) (left : Expression) → length vs ≡ 3 → at 1 (map expression_of (map view vs)) ≡ Some left
     → binary_of operator (map expression_of (map view vs)) ≡ (at 2 (map expression_of (map view vs)) >>= λ right. Some (binary operator left right))
 unfolding binary_of
@@ -67,7 +67,7 @@ pub send_left : (vs : List Tree) (receiver : Expression) (selector : Text) → v
 unfolding send_expression_of
 send_left vs receiver selector is_selector is = rw (is, is_selector) refl
 
--- where an expression inside is not read, none is spelled
+-- if an expression inside is not read, the value spells none
 pub binary_fails : (operator : Operator) (vs : List Tree) (e : ReadFault) → length vs ≡ 3 → Fails e (at 1 (map expression_of (map view vs))) → Fails e (binary_of operator (map expression_of (map view vs)))
 unfolding binary_of
 binary_fails operator vs faults.Memory len fails = tt

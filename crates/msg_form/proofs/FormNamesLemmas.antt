@@ -37,7 +37,7 @@ few_gathered ts i first names le is =
       all = λ few. same;
     }
 
--- where they were added to none
+-- if they were added to no texts
 pub distinct_while_few : (none names texts : List Text) → none ≡ [] → AreAddedWhileFew none names texts → AreDistinct names texts
 unfolding distinct
 distinct_while_few none names texts empty added = record {
@@ -45,8 +45,8 @@ distinct_while_few none names texts empty added = record {
   all = λ few. added.all few ∙ ap (λ ns. fold with_name ns texts) empty;
 }
 
--- texts of selectors, the names of classes and those of objects and implementations were added to
--- none
+-- the texts of selectors, the names of classes and those of objects and implementations were added
+-- to empty sets
 pub are_names : (f : Form) (none between last : FormNames) (selectors : List Text) → AreAddedWhileFew none.selectors selectors (selector_texts f) → AreClassesAdded (record none { selectors = selectors }) between f → AreMembersAdded between last f → HasNone none → AreNamesOf last f
 unfolding distinct has_duplicate_class has_duplicate_object has_duplicate_imp
 are_names f none between last selectors texts classes members empty =
@@ -63,7 +63,7 @@ are_names f none between last selectors texts classes members empty =
       imp_twice = members.imp_twice ∙ ap (λ ns. repeats ns (imp_names f)) (classes.imps ∙ empty.imps) ∙ repeats-none (imp_names f);
     }
 
--- the names of the parts xs, which g shows, are those that the form gives
+-- the names of the parts xs, seen through g, are those that the form gives
 names_shown : {A B : Type 0} (f : B → Text) (g : A → B) (xs ys : List A) → xs ≡ ys → map (λ x. f (g x)) xs ≡ map f (map g ys)
 names_shown f g xs ys same = ap (map (λ x. f (g x))) same ∙ sym (map-map f g ys)
 
@@ -73,7 +73,7 @@ object_names_shown f os = names_shown (λ (o : ObjectForm). o.name) object_view 
 pub imp_names_shown : (f : declared.Form) (is : List Imp) → is ≡ f.imps.items → map (λ i. i.name.now) is ≡ imp_names (form_view f)
 imp_names_shown f is = names_shown (λ (i : ImpForm). i.name) imp_view is f.imps.items
 
--- where no two implementations have one name, each name stands in its implementation's place
+-- if no two implementations have the same name, each name has its implementation's place
 pub imps_in_place : (f : Form) (n : FormNames) → AreNamesOf n f → n.imp_twice ≡ false → n.imps ≡ imp_names f
 unfolding has_duplicate_imp
 imps_in_place f n are once = are.imps ∙ distinct-same (imp_names f) (sym are.imp_twice ∙ once)

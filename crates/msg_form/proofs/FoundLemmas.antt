@@ -41,7 +41,7 @@ none_test l = at_test (nat_lt l 0) refl
     at_test false e = refl
     at_test true e = absurd (grind (arith, nat_tests))
 
--- no room at all, or less than what is left needs
+-- no room at all, or less than the rest needs
 one_less : (l d : ℕ) → ((l == 0) || nat_lt (l - 1) d) ≡ nat_lt l (suc d)
 one_less l d = at_test (l == 0) (nat_lt (l - 1) d) (nat_lt l (suc d)) refl refl refl
   where
@@ -73,7 +73,7 @@ mutual
   all_parts_at-parts l no_more = refl
   all_parts_at-parts l (more e es) = two (parts_at l e) (all_parts_at l es) (parts e) (all_parts es) (parts_at-parts l e) (all_parts_at-parts l es)
 
--- some part has no level left exactly where the expression is too deep
+-- some part has no level left exactly if the expression is too deep
 either : (l a b : ℕ) (ps qs : List (ℕ × Expression)) → list_any (λ p. p.0 == 0) ps ≡ nat_lt l a → list_any (λ p. p.0 == 0) qs ≡ nat_lt l b → list_any (λ p. p.0 == 0) (ps ++ qs) ≡ nat_lt l (max a b)
 either l a b ps qs e f = list_any-append (λ p. p.0 == 0) ps qs ∙ (λ i. e i || f i) ∙ sym (max_test l a b)
 
@@ -99,7 +99,7 @@ mutual
 -- ---- what each expression adds
 
 module _ (above : Bool) (classes objects : List Text) (args : ℕ) where
-  -- a fault that each expression adds by a test is found by that test
+  -- a fault that each expression adds by a test is found by the same test of the body
   found_by : (fault : BodyFaults → Bool) (test : Expression → Bool) → ((l : ℕ) (f : Found) (e : Expression) → fault (with_own above classes objects args (entered l f).faults e) ≡ (fault f.faults || test e)) → (f : Found) (ps : List (ℕ × Expression))
       → fault (fold (with_part above classes objects args) f ps).faults ≡ (fault f.faults || list_any (λ p. test p.1) ps)
   found_by fault test own f [] = sym (or-false (fault f.faults))
@@ -291,7 +291,7 @@ module _ (above : Bool) (classes objects : List Text) (args : ℕ) where
       let count : length (parts_at MAX_DEPTH body) ≡ length (parts body) = sym (length-map (parts_at MAX_DEPTH body) (λ p. p.1)) ∙ ap length (parts_at-parts MAX_DEPTH body) in
       full f (parts_at MAX_DEPTH body) ∙ (λ i. f.faults.too_deep || (levels MAX_DEPTH body i || nat_lt (room i) (count i)))
 
--- a super send looks above a root class in a method of such a class
+-- a super send in a method of a root class looks above that class
 pub above_root : (r m a s : Bool) → r ≡ (m && a) → (r && s) ≡ (m && a && s)
 above_root r m a s is = ap (λ b. b && s) is ∙ at_test m a
   where
@@ -299,7 +299,7 @@ above_root r m a s is = ap (λ b. b && s) is ∙ at_test m a
     at_test true y = refl
     at_test false y = refl
 
--- a body that names nothing has no name that is unknown
+-- a body that names nothing has no unknown name
 pub none_named : (p : Text → Bool) (names : List Text) → list_any (is_unknown []) names ≡ false → list_any p names ≡ false
 none_named p [] h = refl
 none_named p (name ∷ names) h = cc

@@ -44,7 +44,7 @@ each_on g f vs i v old new x whole lt at read pushed so_far =
 pub each_done : {A B : Type 0} (g : A → B) (f : Data → Option B) (vs : List Tree) (i : ℕ) (read : List A) (whole : Option (List B)) → length vs ≤ i → with_first (map g read) (each f (map view (drop i vs))) ≡ whole → whole ≡ Some (map g read)
 each_done g f vs i read whole past so_far = sym so_far ∙ ap (λ ds. with_first (map g read) (each f (map view ds))) (drop_all i vs past) ∙ ap Some (append-nil (map g read))
 
--- where one of the values is not read, they spell nothing
+-- if one of the values is not read, the list spells nothing
 pub each_fails : {A B : Type 0} (g : A → B) (f : Data → Option B) (vs : List Tree) (i : ℕ) (v : Tree) (read : List A) (whole : Option (List B)) (e : ReadFault) → i < length vs → v ≡ get_or vs i v → Fails e (f (view v))
     → with_first (map g read) (each f (map view (drop i vs))) ≡ whole → Fails e whole
 each_fails g f vs i v read whole faults.Memory lt at fails so_far = tt
@@ -52,6 +52,6 @@ each_fails g f vs i v read whole faults.Shape lt at none so_far =
     let left : drop i vs ≡ v ∷ drop (suc i) vs = drop-cons vs i v lt ∙ ap (λ y. y ∷ drop (suc i) vs) (sym at) in
     sym so_far ∙ rw (left, none) refl
 
--- there are so many values
+-- the list has n values
 pub so_long : (vs : List Tree) (n : ℕ) → length vs ≡ n → (length (map view vs) == n) ≡ true
 so_long vs n e = eq-eqb (length (map view vs)) n (length-map vs view ∙ e)

@@ -1,4 +1,4 @@
--- The data of an expression that stands in the arena.
+-- The data of an expression that lies in the arena.
 use Rattle.std.proofs.Common.{◌≡◌, map, Bor, rules}
 use Rattle.msg_form.specs.Expression.{binary, choice, send, super_send, expressions}
 use Rattle.msg_form.specs.ExprView.{expr_view}

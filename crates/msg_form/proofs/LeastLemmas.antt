@@ -7,12 +7,12 @@ use Rattle.msg_form.specs.Faults.{Condition, conditions, first_of, fault_of}
 use Rattle.msg_form.specs.Form.{Form}
 use Rattle.msg_form.specs.declared.faults.DocumentFault.{DocumentFault}
 
--- the numbers rise from a least one on
+-- the numbers rise from a least one
 abbrev Rise : ℕ → List Condition → Type 0
 Rise least [] = Unit {0}
 Rise least (c ∷ cs) = (least ≤ document_fault_number c.0) × Rise (document_fault_number c.0) cs
 
--- the fault of a condition that is met isn't below the one that is told
+-- the fault of a condition that holds isn't below the fault that is returned
 at_most : (least place : ℕ) (cs : List Condition) (f : Form) (told : DocumentFault) (c : Condition) → Rise least cs → first_of cs f ≡ Some told → slice_get cs place ≡ Some c → c.1 f ≡ true → document_fault_number told ≤ document_fault_number c.0
 at_most least place [] f told c rise e at met = cc
 at_most least zero (d ∷ cs) f told c rise e at met =

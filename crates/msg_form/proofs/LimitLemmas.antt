@@ -22,7 +22,7 @@ all_selectors f names r are is within =
     let le : length names ≤ MAX_NAMES = grind (arith, nat_tests) in
     are.all le
 
--- and no more classes than may be
+-- and no more classes than the limit
 pub few_classes : (f : Form) (r : Bool) → r ≡ is_over_limit f → r ≡ false → length f.classes ≤ MAX_CLASSES
 unfolding is_over_limit has_long_list
 few_classes f r is within =

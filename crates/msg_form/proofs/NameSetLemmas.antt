@@ -9,7 +9,7 @@ use Rattle.msg_form.specs.Text.{Text, is_among, texts_view}
 abbrev pub text_eq : Bor Text → Bor Text → Bool
 text_eq x y = bytes_eq x.now y.now
 
--- a reference is among the keys where its text is among their texts
+-- a reference is among the keys if its text is among their texts
 pub among-texts_view : (ks : List (Bor Text)) (k : Bor Text) → list_any (text_eq k) ks ≡ is_among k.now (texts_view ks)
 among-texts_view [] k = refl
 among-texts_view (x ∷ ks) k = ap (λ r. bytes_eq k.now x.now || r) (among-texts_view ks k)

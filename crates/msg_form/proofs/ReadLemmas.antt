@@ -1,4 +1,4 @@
--- Readings of values that stand beside others.
+-- Readings of values among other values.
 use Rattle.std.proofs.Common.{◌≡◌, ◌-◌, ◌≤◌, List, true, map, take, drop, get_or, length, Option, Some, ap, refl, codes, bytes_eq, arith, length-drop}
 use Rattle.std.proofs.lemmas.List.{drop-map, take_all}
 use Rattle.std.proofs.lemmas.Slice.Eq.{bytes_eq-Decides}
@@ -17,7 +17,7 @@ use Rattle.msg_form.specs.declared.faults.ReadFault.{ReadFault}
 use Rattle.msg_form.specs.declared.faults.ReadFault.TheVariants as faults
 use Rattle.msg_form.proofs.JsonLemmas.{value_there}
 
--- where a part is not read, nothing is spelled
+-- if a part is not read, the value spells nothing
 pub fails_on : {Y Z : Type 0} (e : ReadFault) (o : Option Y) (f : Y → Option Z) → Fails e o → Fails e (o >>= f)
 fails_on faults.Memory o f fails = tt
 fails_on faults.Shape o f fails = ap (λ q. q >>= f) fails
@@ -27,7 +27,7 @@ pub attach_is : (word : Text) (ds : List Data) → bytes_eq word (codes "attach"
 unfolding worded_change_of
 attach_is word ds e = rw ((bytes_eq-Decides word (codes "attach")).0 e) refl
 
--- where the receiver and the selector of a send were read, what is left to read decides
+-- if the receiver and the selector of a send were read, the rest decides
 pub send_item_left : (d : Data) (vs : List Tree) (v : Tree) (receiver : Constant) (selector : Text) → Some (map view vs) ≡ list_at d → 2 ≤ length vs → v ≡ get_or vs 0 v → Some receiver ≡ constant_of (view v) → Some selector ≡ value_of as_str 1 (map view vs)
     → send_item_of d ≡ (each constant_of (map view (take (length vs - 2) (drop 2 vs))) >>= λ args. Some (send_item receiver selector args))
 unfolding send_item_of

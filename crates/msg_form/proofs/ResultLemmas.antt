@@ -1,4 +1,4 @@
--- Values that are kept where the work on them was done.
+-- Values that are kept in the place where they were made.
 use Rattle.std.proofs.Common.{◌≡◌, Result, Ok, Err, sym, subst}
 use Rattle.std.specs.Prelude.{IfOk, OnOk}
 use Rattle.std.specs.Result.{result_and}

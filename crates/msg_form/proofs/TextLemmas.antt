@@ -40,12 +40,12 @@ is_among-fold : (q : Text) (names texts : List Text) → is_among q (fold with_n
 is_among-fold q names [] = sym (or-false (is_among q names))
 is_among-fold q names (t ∷ texts) = is_among-fold q (with_name names t) texts ∙ ap (λ b. b || is_among q texts) (is_among-with_name q names t) ∙ or-assoc (is_among q names) (bytes_eq q t) (is_among q texts)
 
--- the different texts are the texts
+-- the texts among the different texts are the texts
 pub is_among-distinct : (q : Text) (texts : List Text) → is_among q (distinct texts) ≡ is_among q texts
 unfolding distinct
 is_among-distinct q texts = is_among-fold q [] texts
 
--- ---- a text that stands twice, or among those that were seen
+-- ---- a text that occurs twice, or among those that were seen
 
 any_among : (seen : List Text) (t : Text) (texts : List Text) → list_any (λ u. is_among u (with_name seen t)) texts ≡ (list_any (λ u. is_among u seen) texts || is_among t texts)
 any_among seen t [] = refl
@@ -60,7 +60,7 @@ any_among seen t (u ∷ texts) =
     regroup false false true d = refl
     regroup false false false d = refl
 
--- a text repeats where it was seen, or where a later one does
+-- a text repeats if it was seen, or if a later one does
 pub repeats-step : (seen : List Text) (t : Text) (texts : List Text) → repeats seen (t ∷ texts) ≡ (is_among t seen || repeats (with_name seen t) texts)
 repeats-step seen t texts = or-assoc (is_among t seen) (list_any (λ u. is_among u seen) texts) (is_among t texts || has_duplicate texts) ∙ ap (λ b. is_among t seen || b) (sym later)
   where
@@ -90,12 +90,12 @@ distinct-on seen (t ∷ texts) e =
     let grown : with_name seen t ≡ seen ++ t ∷ [] = rw each.0 refl in
     distinct-on (with_name seen t) texts each.1 ∙ ap (λ n. n ++ texts) grown ∙ append_assoc seen (t ∷ []) texts
 
--- texts of which none stands twice are the different ones
+-- texts none of which occurs twice are their different texts
 pub distinct-same : (texts : List Text) → has_duplicate texts ≡ false → distinct texts ≡ texts
 unfolding distinct
 distinct-same texts e = distinct-on [] texts (repeats-none texts ∙ e)
 
--- a text of two lists repeats in the first, or in the other after the first's
+-- a text of two lists repeats in the first, or in the second after the texts of the first
 pub repeats-append : (seen xs ys : List Text) → repeats seen (xs ++ ys) ≡ (repeats seen xs || repeats (fold with_name seen xs) ys)
 repeats-append seen [] ys = refl
 repeats-append seen (x ∷ xs) ys =
@@ -103,7 +103,7 @@ repeats-append seen (x ∷ xs) ys =
     ∙ sym (or-assoc (is_among x seen) (repeats (with_name seen x) xs) (repeats (fold with_name (with_name seen x) xs) ys))
     ∙ ap (λ b. b || repeats (fold with_name (with_name seen x) xs) ys) (sym (repeats-step seen x xs))
 
--- as many different texts as there are texts, at most
+-- at most as many different texts as there are texts
 pub length-distinct : (texts : List Text) → length (distinct texts) ≤ length texts
 unfolding distinct
 length-distinct texts = let all = on [] texts in omega (arith, all)
@@ -123,7 +123,7 @@ added_on f xs i x t seen after whole lt at is grown so_far =
     let left : map f (drop i xs) ≡ t ∷ map f (drop (i + 1) xs) = rw (add-one, is) (ap (map f) (drop-cons xs i x lt ∙ ap (λ y. y ∷ drop (suc i) xs) (sym at))) in
     ap (λ ns. fold with_name ns (map f (drop (i + 1) xs))) grown ∙ sym (ap (fold with_name seen) left) ∙ so_far
 
--- names that are added take none away
+-- added names take no name away
 pub fold_grows : (names texts : List Text) → length names ≤ length (fold with_name names texts)
 fold_grows names [] = omega arith
 fold_grows names (t ∷ texts) = let more : length names ≤ length (with_name names t) = at_test (is_among t names) in omega (arith, fold_grows (with_name names t) texts)
@@ -132,7 +132,7 @@ fold_grows names (t ∷ texts) = let more : length names ≤ length (with_name n
     at_test true = omega arith
     at_test false = simp length-append (omega arith)
 
--- ---- a test of texts is a test of the different ones
+-- ---- a test of texts is a test of the different texts
 
 present : (p : Text → Bool) (t : Text) (names : List Text) → is_among t names ≡ true → list_any p names ≡ (list_any p names || p t)
 present p t [] h = cc
@@ -165,7 +165,7 @@ pub any_distinct : (p : Text → Bool) (texts : List Text) → list_any p (disti
 unfolding distinct
 any_distinct p texts = any_fold p [] texts
 
--- ---- the different ones of different texts
+-- ---- the different texts among different texts
 
 fold-last : (names texts : List Text) (t : Text) → fold with_name names (texts ++ t ∷ []) ≡ with_name (fold with_name names texts) t
 fold-last names [] t = refl
@@ -187,7 +187,7 @@ pub distinct-distinct : (texts : List Text) → distinct (distinct texts) ≡ di
 unfolding distinct
 distinct-distinct texts = distinct-fold [] texts
 
--- ---- names that are gathered, with a mark of whether one came twice
+-- ---- names that are collected, with a mark that says whether one came twice
 
 -- a turn of the loop over the parts with the names f
 pub twice_on : {A : Type 0} (f : A → Text) (xs : List A) (i : ℕ) (x : A) (t : Text) (added twice : Bool) (seen after : List Text) (whole : Bool) → i < length xs → x ≡ get_or xs i x → t ≡ f x

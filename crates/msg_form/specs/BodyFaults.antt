@@ -9,19 +9,19 @@ use Rattle.msg_form.specs.Lists.{class_names, root_names, object_names, body_cla
 use Rattle.msg_form.specs.Parts.{classes_in, indices_in, is_super_send, objects_in, parts, sends_in}
 use Rattle.msg_form.specs.Text.{Text, is_unknown}
 
--- a body names a class that is none of the names
+-- a body names a class that is not among the names
 abbrev pub names_unknown_class : List Text → ImpForm → Bool
 names_unknown_class classes i = list_any (is_unknown classes) (classes_in i.body)
 
--- or an object
+-- a body names an object that is not among the names
 abbrev pub names_unknown_object : List Text → ImpForm → Bool
 names_unknown_object objects i = list_any (is_unknown objects) (objects_in i.body)
 
--- a send of it has too few or too many arguments
+-- a send of a body has too few or too many arguments
 abbrev pub has_miscounted_send : ImpForm → Bool
 has_miscounted_send i = list_any spec.is_miscounted_send (sends_in i.body)
 
--- which faults the bodies of a form have, each by itself
+-- which faults the bodies of a form have, each on its own
 pub record AreBodyFaults (b : BodyFaults) (f : Form) : Type 0 where
   pub sends_above : b.sends_above ≡ list_any (spec.sends_above (root_names f)) f.imps
   pub unknown_class : b.unknown_class ≡ list_any (is_unknown (class_names f)) (body_classes f)
@@ -30,8 +30,8 @@ pub record AreBodyFaults (b : BodyFaults) (f : Form) : Type 0 where
   pub argument_index : b.argument_index ≡ spec.has_wrong_argument_index f
   pub too_deep : b.too_deep ≡ spec.has_too_deep_body f
 
--- what a body has at its worst: in a method of a root class, where no class and no object has a
--- name
+-- the faults of a body in the worst case: in a method of a root class, if no class and no object
+-- has a name
 pub record AreWorst (w : BodyFaults) (args : ℕ) (body : Expression) : Type 0 where
   pub sends_above : w.sends_above ≡ list_any is_super_send (parts body)
   pub unknown_class : w.unknown_class ≡ list_any (is_unknown []) (classes_in body)
@@ -40,7 +40,7 @@ pub record AreWorst (w : BodyFaults) (args : ℕ) (body : Expression) : Type 0 w
   pub argument_index : w.argument_index ≡ list_any (nat_le args) (indices_in body)
   pub too_deep : w.too_deep ≡ spec.is_too_deep body
 
--- a body's faults are added, where roots, classes and objects have these names
+-- a body's faults are added, for these names of roots, classes and objects
 pub record AreAdded (roots classes objects : List Text) (old new : BodyFaults) (i : ImpForm) : Type 0 where
   pub sends_above : new.sends_above ≡ (old.sends_above || spec.sends_above roots i)
   pub unknown_class : new.unknown_class ≡ (old.unknown_class || names_unknown_class classes i)

@@ -114,7 +114,7 @@ super_expression_of ds es = do
   args ← all_from 2 es
   Some (super_send selector (expressions args))
 
--- an operation where there is an operator, and else a constant
+-- an operation if the word is an operator, and else a constant
 abbrev pub operation_of : Option Operator → Text → List Data → List (Option Expression) → Option Expression
 operation_of (Some operator) word ds es = binary_of operator es
 operation_of None word ds es = option_map constant (named_of word ds)

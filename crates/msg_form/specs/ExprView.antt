@@ -1,4 +1,4 @@
--- The expression that a tree of the program stands for.
+-- The expression that a tree of the program represents.
 use Rattle.std.specs.Prelude.{List, map}
 use Rattle.msg_form.specs.Expression as plain
 use Rattle.msg_form.specs.Expression.{Expression, Expressions, expressions}
@@ -17,7 +17,7 @@ constant_view (Object n) = plain.object_named n.now
 constant_view (Class n) = plain.class_named n.now
 constant_view (Selector s) = plain.selector_named s.now
 
--- ---- one level, with each expression inside already seen
+-- ---- one level, with the view of each expression inside
 
 abbrev pub expr_step : Expr-F Expression Expression Expression Expression Expression → Expression
 expr_step (Expr-F.Whole z) = plain.constant (plain.whole z)
@@ -54,7 +54,7 @@ pair_of_exprs_view es = (expr_view es.0, expr_view es.1)
 abbrev pub exprs_view : List Expr → Expressions
 exprs_view es = expressions (map expr_view es)
 
--- ---- what is made of expressions
+-- ---- parts that are made of expressions
 
 abbrev pub binary_view : Operator → Expr → Expr → Expression
 binary_view operator left right = plain.binary operator (expr_view left) (expr_view right)

@@ -19,7 +19,7 @@ mutual
     me : Expression
     arg : ℕ → Expression
     binary : Operator → Expression → Expression → Expression
-    -- condition, what is answered where it holds, and where not
+    -- condition, the result if it holds, and the result if not
     choice : Expression → Expression → Expression → Expression
     -- receiver, selector, arguments
     send : Expression → Text → Expressions → Expression
@@ -33,7 +33,7 @@ abbrev pub expressions : List Expression → Expressions
 expressions [] = no_more
 expressions (e ∷ es) = more e (expressions es)
 
--- how many there are
+-- the number of expressions
 abbrev pub count_of : Expressions → ℕ
 count_of no_more = 0
 count_of (more e es) = suc (count_of es)

@@ -4,7 +4,7 @@ use Rattle.msg_form.specs.Text.{Text}
 use Rattle.msg_form.specs.declared.faults.DocumentFault.{DocumentFault}
 use Rattle.msg_form.specs.declared.faults.DocumentFault.TheVariants as faults
 
--- a fault's number, and what is said of it
+-- a fault's number and its text
 abbrev pub numbered_text : DocumentFault → ℕ × Text
 numbered_text faults.NotJson = (1, codes "not json")
 numbered_text faults.Shape = (2, codes "shape")
@@ -25,7 +25,7 @@ numbered_text faults.BodyTooDeep = (16, codes "body too deep")
 numbered_text faults.Memory = (17, codes "out of memory")
 numbered_text faults.ClassCycle = (18, codes "class cycle")
 
--- the number of a document's fault, by which the least is answered
+-- the number of a document's fault; the fault with the least number is returned
 abbrev pub document_fault_number : DocumentFault → ℕ
 document_fault_number f = (numbered_text f).0
 

@@ -30,11 +30,11 @@ unfoldable pub has_long_list : Form → Bool
 has_long_list f =
     nat_lt MAX_CLASSES (length f.classes + length f.made) || nat_lt MAX_CATEGORIES (length f.categories) || nat_lt MAX_OBJECTS (length f.objects) || nat_lt MAX_IMPS (length f.imps) || nat_lt MAX_ITEMS (length f.items)
 
--- the method entries of classes and categories together are too many
+-- the classes and categories together have too many method entries
 unfoldable pub has_many_entries : Form → Bool
 has_many_entries f = nat_lt MAX_ENTRIES (length (method_entries f))
 
--- the different texts at places of selectors are too many
+-- too many different texts are at places of selectors
 unfoldable pub has_many_selectors : Form → Bool
 has_many_selectors f = nat_lt MAX_NAMES (length (distinct (selector_texts f)))
 
@@ -43,18 +43,19 @@ is_over_limit f = has_long_list f || has_many_entries f || has_many_selectors f
 
 -- ---- DuplicateClass
 
--- two classes, listed or that may be made, have one name
+-- two classes, listed or that may be made, have the same name
 unfoldable pub has_duplicate_class : Form → Bool
 has_duplicate_class f = has_duplicate (class_names f)
 
 -- ---- UnknownSuperclass
 
--- a superclass that is none of the names
+-- a superclass is not among the names
 abbrev pub is_outside : List Text → Option Text → Bool
 is_outside names None = false
 is_outside names (Some name) = is_unknown names name
 
--- a class's `super` isn't the name of a class before it, where those before these have the names
+-- a class's `super` isn't the name of an earlier class, if those before the classes have these
+-- names
 abbrev pub has_late_superclass : List Text → List ClassForm → Bool
 has_late_superclass names [] = false
 has_late_superclass names (c ∷ cs) = is_outside names c.superclass || has_late_superclass (names ++ c.name ∷ []) cs
@@ -63,12 +64,12 @@ has_late_superclass names (c ∷ cs) = is_outside names c.superclass || has_late
 abbrev pub has_unlisted_superclass : List ClassForm → Bool
 has_unlisted_superclass cs = list_any (λ c. is_outside (map (λ (d : ClassForm). d.name) cs) c.superclass) cs
 
--- a class's `super` isn't the name of a listed class, or in version 1 of one that is listed before
--- it
+-- a class's `super` isn't the name of a listed class, or in version 1 of a class that is listed
+-- earlier
 unfoldable pub has_other_superclass : Form → Bool
 has_other_superclass f = if makes_classes f.version then has_unlisted_superclass f.classes else has_late_superclass [] f.classes
 
--- an implementation whose home class is one of the roots, and not a metaclass, has a super send
+-- an implementation has a super send, and its home class is one of the roots and no metaclass
 abbrev pub sends_above : List Text → ImpForm → Bool
 sends_above roots i = not i.meta && is_among i.class roots && list_any is_super_send (parts i.body)
 
@@ -77,32 +78,32 @@ has_unknown_superclass f = has_other_superclass f || list_any (sends_above (root
 
 -- ---- UnknownClass
 
--- a category or implementation has no listed class, or an object, change or constant names none
--- that is listed or may be made
+-- the class of a category or implementation isn't listed, or an object, change or constant names a
+-- class that isn't listed and may not be made
 unfoldable pub has_unknown_class : Form → Bool
 has_unknown_class f = list_any (is_unknown (class_names f)) (classes_named f) || list_any (is_unknown (listed_names f)) (home_classes f)
 
 -- ---- DuplicateObject
 
--- two objects have one name
+-- two objects have the same name
 unfoldable pub has_duplicate_object : Form → Bool
 has_duplicate_object f = has_duplicate (object_names f)
 
 -- ---- UnknownObject
 
--- a constant names no listed object
+-- a constant names an object that isn't listed
 unfoldable pub has_unknown_object : Form → Bool
 has_unknown_object f = list_any (is_unknown (object_names f)) (objects_named f)
 
 -- ---- DuplicateImp
 
--- two implementations have one name
+-- two implementations have the same name
 unfoldable pub has_duplicate_imp : Form → Bool
 has_duplicate_imp f = has_duplicate (imp_names f)
 
 -- ---- UnknownImp
 
--- a list L or a change names no listed implementation
+-- a list L or a change names an implementation that isn't listed
 unfoldable pub has_unknown_imp : Form → Bool
 has_unknown_imp f = list_any (is_unknown (imp_names f)) (imps_named f)
 
@@ -114,36 +115,36 @@ has_bad_selector f = list_any (λ t. not (is_selector_name t)) (selector_texts f
 
 -- ---- DuplicateSelector
 
--- one list L has a selector twice
+-- a selector occurs twice in one list L
 unfoldable pub has_duplicate_selector : Form → Bool
 has_duplicate_selector f = list_any (λ l. has_duplicate (list_texts l)) (all_lists f)
 
 -- ---- ArgumentCount
 
--- how many arguments the implementation of a name takes
+-- the number of arguments that the implementation with a name takes
 abbrev pub args_named : List ImpForm → Text → Option ℕ
 args_named imps name = option_map (λ i. i.args) (find (λ i. bytes_eq name i.name) imps)
 
--- a number of arguments, where it is given, is another than the selector's colons
+-- a number of arguments is given, and differs from the number of the selector's colons
 abbrev pub differs : Option ℕ → Text → Bool
 differs None selector = false
 differs (Some n) selector = not (n == colons_of selector)
 
--- the pair's implementation takes another number of arguments than its selector has colons
+-- the pair's implementation takes more or fewer arguments than its selector has colons
 abbrev pub is_miscounted : List ImpForm → PairForm → Bool
 is_miscounted imps p = differs (args_named imps p.imp) p.selector
 
--- a send has another number of arguments than its selector has colons
+-- a send has more or fewer arguments than its selector has colons
 abbrev pub is_miscounted_send : Text × ℕ → Bool
 is_miscounted_send s = differs (Some s.1) s.0
 
--- a pair in a class's or category's list is miscounted, or a send or super send is
+-- a pair in a class's or category's list, a send or a super send is miscounted
 unfoldable pub has_wrong_argument_count : Form → Bool
 has_wrong_argument_count f = list_any (is_miscounted f.imps) (method_entries f) || list_any is_miscounted_send (sends f)
 
 -- ---- ArgumentIndex
 
--- an `["arg",k]` has k not below the implementation's `args`
+-- the k of an `["arg",k]` is not below the implementation's `args`
 abbrev pub reads_beyond : ImpForm → Bool
 reads_beyond i = list_any (nat_le i.args) (indices_in i.body)
 
@@ -165,14 +166,14 @@ has_too_deep_body f = list_any (λ i. is_too_deep i.body) f.imps
 abbrev pub superclasses_of : List ClassForm → List (Option ℕ)
 superclasses_of cs = map (λ c. option_map (number_among (distinct (map (λ (d : ClassForm). d.name) cs))) c.superclass) cs
 
--- A listed class stands on its own chain of superclasses, so that the chain doesn't end. In version
--- 1 superclasses come first.
+-- A listed class is on its own chain of superclasses, so that the chain doesn't end. In version 1
+-- superclasses come first.
 unfoldable pub has_class_cycle : Form → Bool
 has_class_cycle f = makes_classes f.version && has_cycle (superclasses_of f.classes)
 
 -- ---- the least fault
 
--- a fault, and when a form has it
+-- a fault, and the condition under which a form has it
 abbrev pub Condition : Type 0
 Condition = DocumentFault × (Form → Bool)
 

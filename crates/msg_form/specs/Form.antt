@@ -26,7 +26,7 @@ pub record ObjectForm : Type 0 where
   pub name : Text
   pub class : Text
 
--- an implementation; its home class is the class, or the metaclass of that where meta is true
+-- an implementation; its home class is the class, or the metaclass of the class if meta is true
 pub record ImpForm : Type 0 where
   pub name : Text
   pub class : Text
@@ -34,7 +34,7 @@ pub record ImpForm : Type 0 where
   pub args : ℕ
   pub body : Expression
 
--- the name of a method, `-[class selector]`, or `+[class selector]` where meta is true
+-- the name of a method: `-[class selector]`, or `+[class selector]` if meta is true
 pub record MethodForm : Type 0 where
   pub class : Text
   pub meta : Bool
@@ -57,7 +57,7 @@ pub data ItemForm : Type 0 where
   -- receiver, selector, arguments
   send_item : Constant → Text → List Constant → ItemForm
   change_item : ChangeForm → ItemForm
-  -- changes that are made as one
+  -- changes that are made as one change
   change_all_item : List ChangeForm → ItemForm
 
 -- the changes of an item, in their order

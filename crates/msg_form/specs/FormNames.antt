@@ -9,7 +9,7 @@ use Rattle.msg_form.specs.Lists.{listed_names, class_names, root_names, object_n
 use Rattle.msg_form.specs.Text.{Text, AreDistinct, distinct, repeats}
 use Rattle.msg_form.specs.Walk.{selector_texts}
 
--- the names of a form, each list in the order of its numbers, and of which there are two alike
+-- the names of a form, each list in the order of its numbers, and which lists have a name twice
 pub record AreNamesOf (n : FormNames) (f : Form) : Type 0 where
   pub selectors : AreDistinct n.selectors (selector_texts f)
   pub listed : n.listed ≡ distinct (listed_names f)
@@ -21,7 +21,7 @@ pub record AreNamesOf (n : FormNames) (f : Form) : Type 0 where
   pub object_twice : n.object_twice ≡ has_duplicate_object f
   pub imp_twice : n.imp_twice ≡ has_duplicate_imp f
 
--- the texts were added to the names, or so many of them that the names are more than fit
+-- the texts were added to the names, or as many of them as make the names more than fit
 pub record AreAddedWhileFew (old new texts : List Text) : Type 0 where
   pub many : nat_lt MAX_NAMES (length new) ≡ nat_lt MAX_NAMES (length (fold with_name old texts))
   pub all : length new ≤ MAX_NAMES → new ≡ fold with_name old texts
@@ -35,7 +35,7 @@ pub record HasNone (n : FormNames) : Type 0 where
   pub objects : n.objects ≡ []
   pub imps : n.imps ≡ []
 
--- the names of the form's classes are added, and what else there is stays
+-- the names of the form's classes are added, and everything else stays the same
 pub record AreClassesAdded (old new : FormNames) (f : Form) : Type 0 where
   pub listed : new.listed ≡ fold with_name old.listed (listed_names f)
   pub classes : new.classes ≡ fold with_name old.classes (class_names f)
@@ -45,7 +45,7 @@ pub record AreClassesAdded (old new : FormNames) (f : Form) : Type 0 where
   pub objects : new.objects ≡ old.objects
   pub imps : new.imps ≡ old.imps
 
--- the names of the form's objects and implementations are added, and what else there is stays
+-- the names of the form's objects and implementations are added, and everything else stays the same
 pub record AreMembersAdded (old new : FormNames) (f : Form) : Type 0 where
   pub objects : new.objects ≡ fold with_name old.objects (object_names f)
   pub imps : new.imps ≡ fold with_name old.imps (imp_names f)

@@ -1,4 +1,4 @@
--- Looking into a JSON value for what it spells.
+-- What JSON values spell.
 use Rattle.std.specs.Prelude.{ℕ, ℤ, List, [], ◌∷◌, Bool, true, false, if◌then◌else◌, Option, Some, None, option_map, option_and_then, slice_get, ⊤}
 use Rattle.serde_json.specs.Data.{Data, Items, no_items, item}
 use Rattle.serde_json.specs.Find.{get, as_array, as_number, as_str, as_i64}
@@ -21,7 +21,7 @@ values_of (item d ds) = d ∷ values_of ds
 abbrev pub list_at : Data → Option (List Data)
 list_at d = option_map values_of (as_array d)
 
--- what the values spell, where each spells something
+-- what the values spell, if each spells something
 abbrev pub each : {A B : Type 0} → (A → Option B) → List A → Option (List B)
 each f [] = Some []
 each f (d ∷ ds) = f d >>= λ x. option_map (λ xs. x ∷ xs) (each f ds)
@@ -38,7 +38,7 @@ value_of f i ds = slice_get ds i >>= f
 abbrev pub field_of : {B : Type 0} → (Data → Option B) → Text → Data → Option B
 field_of f key d = get key d >>= f
 
--- a number that `as_i64` answers
+-- a number for which `as_i64` returns one
 unfoldable pub whole_of : Data → Option ℤ
 whole_of d = as_number d >>= as_i64
 

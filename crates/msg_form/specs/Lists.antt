@@ -1,4 +1,4 @@
--- What stands in a form: the names that it gives, its lists, its sends and the names that it cites.
+-- The parts of a form: the names that it gives, its lists, its sends and the names that it cites.
 use Rattle.std.specs.Prelude.{ℕ, List, [], ◌∷◌, ◌++◌, length, map, filter, is_none, Option, Some, None}
 use Rattle.std.specs.List.{flat_map}
 use Rattle.msg_form.specs.Form.{PairForm, ClassForm, CategoryForm, ChangeForm, add, replace, set_imp, exchange, attach, make, remove, dispose, ItemForm, send_item, changes_of, Form}
@@ -11,7 +11,7 @@ use Rattle.msg_form.specs.Text.{Text}
 abbrev pub listed_names : Form → List Text
 listed_names f = map (λ c. c.name) f.classes
 
--- and of those that may be made, after them
+-- the names of the listed classes, and then of the classes that may be made
 abbrev pub class_names : Form → List Text
 class_names f = listed_names f ++ f.made
 
@@ -19,7 +19,7 @@ class_names f = listed_names f ++ f.made
 abbrev pub root_names_in : List ClassForm → List Text
 root_names_in classes = map (λ c. c.name) (filter (λ c. is_none c.superclass) classes)
 
--- and among those that are listed
+-- the names of the listed classes whose `super` is null
 abbrev pub root_names : Form → List Text
 root_names f = root_names_in f.classes
 
@@ -73,12 +73,12 @@ method_entries f = flat_map (λ l. l) (method_lists f)
 abbrev pub body_sends : Form → List (Text × ℕ)
 body_sends f = flat_map (λ i. sends_in i.body) f.imps
 
--- the selector of a send of the document, with how many arguments it is given
+-- the selector of a send of the document, and the number of its arguments
 abbrev pub item_sends : ItemForm → List (Text × ℕ)
 item_sends (send_item r s args) = (s, length args) ∷ []
 item_sends _ = []
 
--- each send and super send, as its selector and how many arguments it has
+-- the selector of each send and super send, and the number of its arguments
 abbrev pub sends : Form → List (Text × ℕ)
 sends f = body_sends f ++ flat_map item_sends f.items
 
@@ -131,7 +131,7 @@ body_objects f = flat_map (λ i. objects_in i.body) f.imps
 abbrev pub objects_named : Form → List Text
 objects_named f = body_objects f ++ flat_map item_objects f.items
 
--- the implementations that a change names, its lists aside
+-- the implementations that a change names, except in its lists
 abbrev pub change_imps : ChangeForm → List Text
 change_imps (add m i) = i ∷ []
 change_imps (replace m i) = i ∷ []

@@ -1,4 +1,4 @@
--- What stands in an expression.
+-- The parts of an expression.
 use Rattle.std.specs.Prelude.{ℕ, suc, max, List, [], ◌∷◌, ◌++◌, Bool, true, false}
 use Rattle.std.specs.List.{flat_map, list_any}
 use Rattle.msg_form.specs.Expression.{Constant, whole, nil, object_named, class_named, selector_named, Expression, Expressions, constant, me, arg, binary, choice, send, super_send, no_more, more, count_of}
@@ -19,7 +19,7 @@ abbrev mutual
   all_parts no_more = []
   all_parts (more e es) = parts e ++ all_parts es
 
--- one more than the greatest depth of those inside
+-- one more than the greatest depth of the expressions inside
 abbrev mutual
   pub depth : Expression → ℕ
   depth (constant c) = 1
@@ -34,7 +34,7 @@ abbrev mutual
   greatest_depth no_more = 0
   greatest_depth (more e es) = max (depth e) (greatest_depth es)
 
--- ---- what a part is, without those inside it
+-- ---- what a part is, without the expressions inside it
 
 -- the constant that a part is, if it is one
 abbrev pub own_constants : Expression → List Constant
@@ -46,7 +46,7 @@ own_constants (choice a b c) = []
 own_constants (send r s es) = []
 own_constants (super_send s es) = []
 
--- the argument that it reads
+-- the argument that a part reads
 abbrev pub own_indices : Expression → List ℕ
 own_indices (constant c) = []
 own_indices me = []
@@ -56,7 +56,7 @@ own_indices (choice a b c) = []
 own_indices (send r s es) = []
 own_indices (super_send s es) = []
 
--- the selector that it sends, and with how many arguments
+-- the selector that a part sends, and the number of its arguments
 abbrev pub own_sends : Expression → List (Text × ℕ)
 own_sends (constant c) = []
 own_sends me = []
@@ -76,7 +76,7 @@ is_super_send (choice a b c) = false
 is_super_send (send r s es) = false
 is_super_send (super_send s es) = true
 
--- it has a text at a place of a selector
+-- a part has a text at a place of a selector
 abbrev pub names_text : Expression → Bool
 names_text (constant (whole z)) = false
 names_text (constant nil) = false
@@ -90,7 +90,7 @@ names_text (choice a b c) = false
 names_text (send r s es) = true
 names_text (super_send s es) = true
 
--- ---- what is anywhere in it
+-- ---- what is anywhere in an expression
 
 abbrev pub constants_in : Expression → List Constant
 constants_in e = flat_map own_constants (parts e)

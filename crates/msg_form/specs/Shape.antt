@@ -143,14 +143,14 @@ worded_change_of word ds =
     (if is_word word (codes "dispose") then dispose_of ds else
     None)))))))
 
--- X, by its word
+-- X, by its first word
 unfoldable pub change_form_of : Data → Option ChangeForm
 change_form_of d = do
   ds ← list_at d
   word ← value_of as_str 0 ds
   worded_change_of word ds
 
--- the parts of `["all",X,X,..]`, which are two at least
+-- the parts of `["all",X,X,..]`, of which there are at least two
 unfoldable pub all_of : List Data → Option (List ChangeForm)
 all_of ds = do
   _ ← only_if (nat_le 3 (length ds))
@@ -174,7 +174,7 @@ change_item_of d = do
   word ← value_of as_str 0 ds
   if is_word word (codes "all") then option_map change_all_item (all_of ds) else option_map change_item (worded_change_of word ds)
 
--- the first, where there is one, and else the other
+-- the first, if there is one, and else the other
 abbrev pub either : {A B : Type 0} → Option A → (A → Option B) → Option B → Option B
 either None f other = other
 either (Some a) f other = f a
@@ -187,7 +187,7 @@ item_form_of d = do
 
 -- ---- the whole document
 
--- what the versions share, beside the names of the classes that may be made
+-- the parts that the versions share, apart from the names of the classes that may be made
 unfoldable pub parts_of : ℤ → List Text → Data → Option Form
 parts_of version made d = do
   classes ← field_of (list_of class_form_of) (codes "classes") d
@@ -197,14 +197,15 @@ parts_of version made d = do
   items ← field_of (list_of item_form_of) (codes "items") d
   Some (record { version = version; classes = classes; made = made; categories = categories; objects = objects; imps = imps; items = items })
 
--- changes that are made as one, or a change that takes away: version 3 added these
+-- changes that are made as one, or a change that removes a method or disposes of a class: version 3
+-- added these
 abbrev pub is_newest : ItemForm → Bool
 is_newest (change_all_item cs) = true
 is_newest (change_item (remove m)) = true
 is_newest (change_item (dispose c)) = true
 is_newest _ = false
 
--- these, or a change that makes a class, which version 2 added
+-- one of these, or a change that makes a class, which version 2 added
 abbrev pub is_later : ItemForm → Bool
 is_later (change_item (make c s)) = true
 is_later i = is_newest i
@@ -224,7 +225,7 @@ third_form_of version d = do
   made ← field_of (list_of name_of) (codes "made") d
   parts_of version made d
 
--- version 2, which is version 3 without what that added
+-- version 2, which is version 3 without what version 3 added
 unfoldable pub second_form_of : ℤ → Data → Option Form
 second_form_of version d = do
   f ← third_form_of version d
@@ -235,7 +236,7 @@ second_form_of version d = do
 abbrev pub form_by : ℤ → Data → Option Form
 form_by version d = if is_third version then third_form_of version d else (if is_second version then second_form_of version d else first_form_of version d)
 
--- The version decides the form where it is 2 or 3. Any other has the form of version 1.
+-- The version decides the form if it is 2 or 3. Any other document has the form of version 1.
 unfoldable pub form_of : Data → Option Form
 form_of d = do
   version ← field_of whole_of (codes "version") d

@@ -14,25 +14,25 @@ Text = List ℕ
 abbrev pub is_among : Text → List Text → Bool
 is_among text texts = list_any (bytes_eq text) texts
 
--- the name is none of the names
+-- the name is not among the names
 abbrev pub is_unknown : List Text → Text → Bool
 is_unknown names name = not (is_among name names)
 
--- some text stands twice
+-- some text occurs twice
 abbrev pub has_duplicate : List Text → Bool
 has_duplicate [] = false
 has_duplicate (text ∷ texts) = is_among text texts || has_duplicate texts
 
--- a text stands twice, or is one of those that were seen
+-- a text occurs twice, or is one of those that were seen
 abbrev pub repeats : List Text → List Text → Bool
 repeats seen texts = list_any (λ t. is_among t seen) texts || has_duplicate texts
 
--- The number of a name, from 0. One that is none of the names would get the first's; where names
--- are known this is no name's number but its own.
+-- The number of a name, from 0. A name that is not among the names would get the number of the
+-- first. The number is used only for names that are known, and then no other name has it.
 abbrev pub number_among : List Text → Text → ℕ
 number_among names name = unwrap_or (number_of names name) 1 - 1
 
--- the different texts, each where it first stands
+-- the different texts, each at its first place
 unfoldable pub distinct : List Text → List Text
 distinct texts = fold with_name [] texts
 

@@ -4,7 +4,7 @@ use Rattle.msg_form.specs.declared.faults.DocumentFault.TheVariants as faults
 use Rattle.msg_form.specs.declared.faults.ReadFault.{ReadFault}
 use Rattle.msg_form.specs.declared.faults.ReadFault.TheVariants.{Shape, Memory}
 
--- the document's fault where its form could not be read
+-- the document's fault if its form could not be read
 abbrev pub unread : ReadFault → DocumentFault
 unread Shape = faults.Shape
 unread Memory = faults.Memory

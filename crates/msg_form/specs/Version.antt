@@ -10,6 +10,6 @@ is_second version = int_eq version (pos 2)
 unfoldable pub is_third : ℤ → Bool
 is_third version = int_eq version (pos 3)
 
--- documents of the version name the classes that they may make
+-- documents of this version name the classes that they may make
 abbrev pub makes_classes : ℤ → Bool
 makes_classes version = is_second version || is_third version

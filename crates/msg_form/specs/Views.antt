@@ -1,4 +1,4 @@
--- The form that the program's parts stand for.
+-- The form that the program's parts represent.
 use Rattle.std.specs.Prelude.{ℕ, List, Option, [], ◌∷◌, map, option_map}
 use Rattle.std.specs.Borrow.{Bor}
 use Rattle.msg_form.specs.ExprView.{constant_view, expr_view}
@@ -43,7 +43,7 @@ classes_view cs = map class_view cs
 abbrev pub names_view : List Class → List Text
 names_view cs = map (λ c. (class_view c).name) cs
 
--- the superclasses of classes, by their numbers among these names
+-- the superclasses of classes, by their numbers among the names
 abbrev pub superclasses_among : List Text → List Class → List (Option ℕ)
 superclasses_among names cs = map (λ c. option_map (number_among names) (class_view c).superclass) cs
 
@@ -59,7 +59,7 @@ object_view o = record { name = o.name.now; class = o.class.now }
 abbrev pub imp_view : Imp → ImpForm
 imp_view i = record { name = i.name.now; class = i.class.now; meta = i.meta; args = i.args; body = expr_view i.body }
 
--- the implementations of a form, as definitions have them
+-- the implementations of a form, in the type of the definitions
 abbrev pub imps_view : List Imp → List ImpForm
 imps_view is = map imp_view is
 

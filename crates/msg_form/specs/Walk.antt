@@ -6,7 +6,7 @@ use Rattle.msg_form.specs.Form.{PairForm, ClassForm, CategoryForm, ImpForm, Chan
 use Rattle.msg_form.specs.Parts.{own_selector}
 use Rattle.msg_form.specs.Text.{Text}
 
--- the selector that an object is asked for a forwarding target by
+-- the selector of the message that asks an object for a forwarding target
 abbrev pub forwarding_text : Text
 forwarding_text = codes "forwardingTargetForSelector:"
 

@@ -13,7 +13,7 @@ use std::fmt;
 /// Why a value was not read.
 #[derive(Clone, Copy, Debug, PartialEq, Eq, thiserror::Error)]
 pub enum ReadFault {
-    /// The value has not the form of what was to be read.
+    /// The value doesn't have the form of the part that was read.
     #[error("shape")]
     Shape,
     #[error("out of memory")]
@@ -36,7 +36,8 @@ impl<T: Drop> From<AllocFailed<T>> for ReadFault {
     }
 }
 
-/// What is wrong with a document, in the order of its numbers, which is that in which it is judged.
+/// What is wrong with a document. The faults are in the order of their numbers, in which a document
+/// is judged.
 #[derive(Clone, Copy, Debug, PartialEq, Eq)]
 pub enum DocumentFault {
     NotJson,
@@ -86,7 +87,7 @@ impl DocumentFault {
         self as u32 + 1
     }
 
-    /// What is said of the fault.
+    /// The text of the fault.
     pub fn text(self) -> &'static str
         ensures { result.now ≡ document_fault_text self }
     {

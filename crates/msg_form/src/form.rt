@@ -1,5 +1,5 @@
-//! The parts of a document. Their texts are those of the JSON text that they were read from, and
-//! expressions lie in an arena.
+//! The parts of a document. They borrow their texts from the JSON text, and expressions lie in an
+//! arena.
 
 ghost use Rattle.std.specs.Prelude.{◌≡◌, ◌≤◌};
 ghost use Rattle.msg_form.specs.BodyFaults.{AreWorst};
@@ -9,7 +9,7 @@ ghost use Rattle.msg_form.specs.Version as spec;
 
 use crate::judge::BodyFaults;
 
-/// A document of version 1, 2 or 3, when `version` is that number.
+/// A document. It has version 1, 2 or 3 if `version` is that number.
 #[derive(Drop)]
 pub struct Form<'v> {
     pub version: i64,
@@ -36,7 +36,7 @@ pub(crate) fn is_third(version: i64) -> bool
     version == 3
 }
 
-/// Whether documents of the version name the classes that they may make.
+/// Whether documents of this version name the classes that they may make.
 pub fn makes_classes(version: i64) -> bool
     ensures { result ≡ spec.makes_classes version }
 {
@@ -71,7 +71,7 @@ pub struct Object<'v> {
     pub class: &'v str,
 }
 
-/// An implementation. Its home class is `class`, or the metaclass of that where `meta` is true.
+/// An implementation. Its home class is `class`, or the metaclass of `class` if `meta` is true.
 #[derive(Drop)]
 pub struct Imp<'v> {
     pub name: &'v str,
@@ -79,7 +79,7 @@ pub struct Imp<'v> {
     pub meta: bool,
     pub args: u8,
     pub body: Expr<'v>,
-    /// The faults that the body has at its worst.
+    /// The faults of the body in the worst case.
     pub(crate) worst: BodyFaults,
     /// Whether the body has texts at places of selectors.
     pub(crate) selects: bool,
@@ -96,11 +96,11 @@ pub enum Item<'v> {
         args: &'v [Constant<'v>],
     },
     Change(Change<'v>),
-    /// Changes that are made as one.
+    /// Changes that are made as one change.
     ChangeAll(Vec<Change<'v>>),
 }
 
-/// The name of a method, `-[class selector]`, or `+[class selector]` where `meta` is true.
+/// The name of a method: `-[class selector]`, or `+[class selector]` if `meta` is true.
 #[derive(Clone, Copy)]
 pub struct MethodName<'v> {
     pub class: &'v str,
@@ -161,7 +161,7 @@ pub enum Operator {
     Lt,
 }
 
-/// An expression. What is large stands in an arena, so that an `Expr` has 16 bytes, and is copied.
+/// An expression. Large parts lie in an arena, so that an `Expr` has 16 bytes and can be copied.
 #[cycle(expr)]
 #[derive(Clone, Copy)]
 pub enum Expr<'v> {
@@ -170,7 +170,7 @@ pub enum Expr<'v> {
     Const(&'v Constant<'v>),
     /// The receiver, `self`.
     Me,
-    /// The argument of a number, from 0.
+    /// The argument with this number, from 0.
     Arg(u64),
     Binary(&'v BinaryExpr<'v>),
     If(&'v IfExpr<'v>),

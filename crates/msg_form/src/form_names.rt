@@ -1,4 +1,5 @@
-//! The names of a form, looked at once: the form is judged by them, and then they are numbers.
+//! The names of a form, each looked at once. The form is judged by these names, which are then
+//! numbers.
 
 ghost use Rattle.std.specs.Prelude.{◌≡◌, fold, map, IfOk, OnOk};
 ghost use Rattle.msg_names.specs.Numbering.{with_name};
@@ -13,14 +14,14 @@ use crate::name_set::NameSet;
 use msg_names::MAX_NAMES;
 use std::alloc::{AllocError, Global};
 
-/// The names of a form, each list in the order of its numbers, and of which there are two alike.
+/// The names of a form, each list in the order of its numbers, and which lists have a name twice.
 #[derive(Drop)]
 pub struct FormNames<'v> {
-    /// The different texts at places of selectors, or some of them where they are too many.
+    /// The different texts at places of selectors, or some of them if they are too many.
     pub selectors: NameSet<'v>,
     /// The listed classes.
     pub listed: NameSet<'v>,
-    /// The listed classes, and after them those that may be made.
+    /// The listed classes, and then the classes that may be made.
     pub classes: NameSet<'v>,
     /// The classes that have no superclass.
     pub roots: NameSet<'v>,
@@ -32,7 +33,7 @@ pub struct FormNames<'v> {
 }
 
 impl<'v> FormNames<'v> {
-    /// Takes time and memory in the order of the form.
+    /// Collects the names, in time and memory proportional to the size of the form.
     pub fn of(alloc: Global, form: &Form<'v>) -> Result<FormNames<'v>, AllocError>
         ensures { IfOk result (λ n. AreNamesOf n (form_view form.now)) }
     {
@@ -56,7 +57,7 @@ impl<'v> FormNames<'v> {
         }
     }
 
-    // The sets stay where they are, so that none is dropped where there is no memory for another.
+    // The sets stay in place, so that none is dropped if there is no memory for another.
     fn add(&mut self, alloc: Global, form: &Form<'v>) -> Result<(), AllocError>
         ensures { OnOk result (HasNone self.old → AreNamesOf self.new (form_view form.now)) }
     {
@@ -73,7 +74,7 @@ impl<'v> FormNames<'v> {
         add_roots(&mut self.roots, &form.classes)
     }
 
-    /// The names of objects and implementations.
+    /// Adds the names of objects and implementations.
     fn add_members(&mut self, form: &Form<'v>) -> Result<(), AllocError>
         ensures { OnOk result (AreMembersAdded self.old self.new (form_view form.now)) }
     {
@@ -83,7 +84,7 @@ impl<'v> FormNames<'v> {
     }
 }
 
-/// A part that gives a name, which no two of a list may share.
+/// A part with a name. No two parts of a list may share a name.
 pub(crate) trait Named<'v> {
     ghost named: { Self → Text };
 
@@ -115,7 +116,7 @@ impl<'v> Named<'v> for Imp<'v> {
     }
 }
 
-// In a list of pairs no selector stands twice.
+// No selector may occur twice in a list of pairs.
 impl<'v> Named<'v> for Pair<'v> {
     ghost named = { λ p. p.selector.now };
 
@@ -132,7 +133,8 @@ impl<'v> Named<'v> for &'v str {
     }
 }
 
-/// Adds the names of the parts. Whether one of them is among the names or stands twice.
+/// Adds the names of the parts. Returns whether one of them is among the names already or occurs
+/// twice.
 fn add_names<'v, T: Named<'v>>(names: &mut NameSet<'v>, parts: &[T]) -> Result<bool, AllocError>
     ensures names { OnOk result (names.new ≡ fold with_name names.old (map T.named parts.now)) }
     ensures twice { IfOk result (λ b. b ≡ repeats names.old (map T.named parts.now)) }
@@ -145,7 +147,7 @@ fn add_names<'v, T: Named<'v>>(names: &mut NameSet<'v>, parts: &[T]) -> Result<b
     Ok(twice)
 }
 
-/// Whether two of the parts have one name.
+/// Whether two of the parts have the same name.
 pub(crate) fn are_alike<'v, T: Named<'v>>(alloc: Global, parts: &[T]) -> Result<bool, AllocError>
     ensures { IfOk result (λ b. b ≡ has_duplicate (map T.named parts.now)) }
 {
@@ -153,8 +155,8 @@ pub(crate) fn are_alike<'v, T: Named<'v>>(alloc: Global, parts: &[T]) -> Result<
     add_names(&mut names, parts)
 }
 
-/// Adds the names of the listed classes and of those that may be made. Whether one of them is among
-/// the names or stands twice.
+/// Adds the names of the listed classes and of those that may be made. Returns whether one of them
+/// is among the names already or occurs twice.
 fn add_class_names<'v>(names: &mut NameSet<'v>, form: &Form<'v>) -> Result<bool, AllocError>
     ensures names { OnOk result (names.new ≡ fold with_name names.old (class_names (form_view form.now))) }
     ensures twice { IfOk result (λ b. b ≡ repeats names.old (class_names (form_view form.now))) }
@@ -177,7 +179,7 @@ fn add_roots<'v>(roots: &mut NameSet<'v>, classes: &[Class<'v>]) -> Result<(), A
     Ok(())
 }
 
-/// Adds the texts at places of selectors, as long as those of the set can have numbers.
+/// Adds the texts at places of selectors, until the set has more texts than can have numbers.
 fn add_selectors<'v>(
     selectors: &mut NameSet<'v>,
     alloc: Global,
@@ -189,7 +191,7 @@ fn add_selectors<'v>(
     add_while_few(selectors, &texts)
 }
 
-/// Adds the texts, as long as those of the set can have numbers.
+/// Adds the texts, until the set has more texts than can have numbers.
 fn add_while_few<'v>(selectors: &mut NameSet<'v>, texts: &[&'v str]) -> Result<(), AllocError>
     ensures { OnOk result (AreAddedWhileFew selectors.old selectors.new (texts_view texts.now)) }
 {

@@ -1,8 +1,8 @@
 //! The least fault of a document.
 //!
-//! All checks together take time in proportion to the document's size: each goes once over the
-//! parts that its fault speaks of, and looks names up in the form's sets of names. The walk over
-//! the places of selectors and the one over the bodies are the dear ones. They take memory for a
+//! All checks together take time in proportion to the document's size. Each check goes once over
+//! the parts that its fault is about, and looks names up in the form's sets of names. The walk over
+//! the places of selectors and the walk over the bodies cost the most. The checks take memory for a
 //! reference to each list of pairs.
 
 ghost use Rattle.std.specs.Prelude.{◌≡◌, ◌≤◌, drop, length, IfOk};
@@ -42,7 +42,7 @@ pub use parts::has_selector_twice;
 use selectors::{has_bad_selector, has_duplicate_selector};
 use std::alloc::{AllocError, Global};
 
-/// The least fault of those that a form can have, [`Version`](DocumentFault::Version) to
+/// Returns the least fault that a form has, of those from [`Version`](DocumentFault::Version) to
 /// [`ClassCycle`](DocumentFault::ClassCycle), by the form's names.
 #[tactic(auto, unfolding(crate::specs::Faults::fault_of))]
 pub fn fault_by(
@@ -78,7 +78,8 @@ pub fn fault_by(
     later_fault(alloc, form, names, bodies)
 }
 
-/// The least fault from [`DuplicateImp`](DocumentFault::DuplicateImp), the eighth, on.
+/// Returns the least fault from [`DuplicateImp`](DocumentFault::DuplicateImp) on, which is the
+/// eighth.
 #[tactic(auto, using(crate::proofs::TextLemmas::any_distinct), unfolding(crate::specs::Faults::has_bad_selector))]
 fn later_fault(
     alloc: Global,

@@ -8,18 +8,18 @@ use crate::limits::{
     MAX_OBJECTS,
 };
 
-/// The conditions that are judged on a form stand in the order of their faults' numbers, and none
-/// is left out.
+/// The conditions that are judged on a form are in the order of their faults' numbers, and none is
+/// left out.
 pub fn faults_are_judged_in_the_order_of_their_numbers()
     ensures { ConditionsAreInOrder }
 {}
 
-/// The fault that is told has the least number of those whose conditions the form meets.
+/// The fault that is returned has the least number of those whose conditions the form meets.
 pub fn the_least_fault_is_told()
     ensures { LeastFaultIsTold }
 {}
 
-/// The limits of documents, as the format has them.
+/// The limits of documents, as in the document format.
 pub fn the_limits_are_the_formats()
     ensures classes { MAX_CLASSES ≡ 1024 }
     ensures categories { MAX_CATEGORIES ≡ 1024 }

@@ -1,6 +1,6 @@
-//! The syntax of documents, with names as texts, and what is wrong with one.
+//! The syntax of documents, with names as texts, and the faults of a document.
 //!
-//! [`Form::read`] reads the form of a document from its JSON value, [`fault_by`] judges it, and
+//! [`Form::read`] reads the form of a document from its JSON value, and [`fault_by`] judges it.
 //! [`Form::selector_texts`] lists the texts that get numbers as selectors. A form borrows its texts
 //! from the JSON text.
 #![tactic(auto)]

@@ -1,6 +1,6 @@
-//! How much a document may have.
+//! The limits of a document.
 
-/// The most classes, those that are listed and those that may be made together.
+/// The most classes, listed classes and classes that may be made together.
 pub const MAX_CLASSES: usize = 1024;
 
 /// The most categories.

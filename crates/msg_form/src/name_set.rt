@@ -1,4 +1,4 @@
-//! Different names, in the order in which they first came, which numbers them.
+//! Different names, numbered in the order in which they first came.
 
 ghost use Rattle.std.specs.Prelude.{◌≡◌, [], length, not, IfOk, OnErr, OnOk};
 ghost use Rattle.msg_names.specs.Numbering.{number_of, with_name};
@@ -8,11 +8,11 @@ use indexmap::IndexSet;
 use std::alloc::{AllocError, Global};
 use std::marker::Model;
 
-/// How many names have numbers.
+/// The most names that get numbers.
 const MAX_NUMBERED: usize = 4_294_967_295;
 
-/// Different texts of a document, numbered from 1 as they came. A look-up and an insert hash the
-/// text once.
+/// Different texts of a document, numbered from 1 in the order in which they came. A look-up and an
+/// insert each hash the text once.
 #[derive(Drop)]
 pub struct NameSet<'v> {
     names: IndexSet<&'v str>,
@@ -64,7 +64,7 @@ impl<'v> NameSet<'v> {
         !self.has(name)
     }
 
-    /// The number of a name, if the set has it.
+    /// Returns the number of a name, if the set has it.
     pub fn number(&self, name: &str) -> Option<u32>
         ensures { result ≡ number_of self.now name.now }
     {
@@ -72,7 +72,7 @@ impl<'v> NameSet<'v> {
         Some(index as u32 + 1)
     }
 
-    /// Whether the name is new to the set, which then has it. There is no room for more than
+    /// Adds a name, and returns whether it is new to the set. The set has no room for more than
     /// 4,294,967,295 names.
     pub fn insert(&mut self, name: &'v str) -> Result<bool, AllocError>
         ensures added { IfOk result (λ b. b ≡ not (is_among name.now self.old)) }

@@ -1,4 +1,4 @@
-//! Reading a form from a JSON tree. Each value is looked at once, and texts are borrowed from the
+//! Reads a form from a JSON tree. Each value is looked at once, and texts are borrowed from the
 //! JSON text.
 
 ghost use Rattle.std.specs.Prelude.{◌≡◌, IfErr, IfOk, Option, map};
@@ -19,9 +19,9 @@ use msg_json::{Bump, Tree, get};
 use std::alloc::Global;
 use values::{list, value_in};
 
-/// What a JSON value may spell.
+/// A part that a JSON value may spell.
 pub trait FromValue<'v>: Sized + Drop {
-    // The same as pure data.
+    // The part as pure data.
     ghost Plain: { Type 0 };
 
     ghost plain: { Self → Plain };
@@ -33,7 +33,7 @@ pub trait FromValue<'v>: Sized + Drop {
         ensures { Gives plain result (spelled (view value.now)) };
 }
 
-/// What the values of a list spell.
+/// Reads the values of a list.
 fn list_of<'v, T: FromValue<'v>>(
     alloc: Global,
     bump: &'v Bump,
@@ -47,7 +47,7 @@ fn list_of<'v, T: FromValue<'v>>(
     }
 }
 
-/// What the values of the list at a key spell.
+/// Reads the values of the list at a key.
 fn list_at<'v, T: FromValue<'v>>(
     alloc: Global,
     bump: &'v Bump,
@@ -62,7 +62,7 @@ fn list_at<'v, T: FromValue<'v>>(
     }
 }
 
-/// What the values of the list at a place spell.
+/// Reads the values of the list at a place.
 fn list_in<'v, T: FromValue<'v>>(
     alloc: Global,
     bump: &'v Bump,
@@ -77,7 +77,7 @@ fn list_in<'v, T: FromValue<'v>>(
     }
 }
 
-/// Parts, kept in the arena.
+/// Keeps parts in the arena.
 fn kept<'v, T: Copy>(bump: &'v Bump, parts: &[T]) -> Result<&'v [T], ReadFault>
     ensures ok { IfOk result (λ kept. kept.now ≡ parts.now) }
     ensures err { IfErr result (λ e. e ≡ Memory) }
@@ -88,7 +88,7 @@ fn kept<'v, T: Copy>(bump: &'v Bump, parts: &[T]) -> Result<&'v [T], ReadFault>
     }
 }
 
-/// What each of the values spells.
+/// Reads each of the values.
 fn each<'v, T: FromValue<'v>>(
     alloc: Global,
     bump: &'v Bump,

@@ -1,4 +1,4 @@
-//! The walk over a document's places of selectors, which numbers them. It looks at each part once,
+//! The walk over a document's places of selectors, which numbers them. It visits each part once,
 //! and copies no text.
 
 ghost use Rattle.std.specs.Prelude.{◌≡◌, List, [], ◌∷◌, ◌++◌, IfOk, OnOk};
@@ -13,12 +13,12 @@ ghost use Rattle.msg_form.specs.Walk as spec;
 use crate::form::{Category, Change, Class, Constant, Expr, Form, Imp, Item, Pair};
 use std::alloc::{AllocError, Global};
 
-/// The selector by which an object is asked for a forwarding target.
+/// The selector of the message that asks an object for a forwarding target.
 pub const FORWARDING: &str = "forwardingTargetForSelector:";
 
 impl<'v> Form<'v> {
-    /// The texts at all places of selectors, in the order in which they are numbered,
-    /// [`FORWARDING`] first.
+    /// Returns the texts at all places of selectors, in the order in which they are numbered.
+    /// [`FORWARDING`] comes first.
     pub fn selector_texts(&self, alloc: Global) -> Result<Vec<&'v str>, AllocError>
         ensures { IfOk result
             (λ v. texts_view v.items ≡ spec.selector_texts (form_view self.now)) }

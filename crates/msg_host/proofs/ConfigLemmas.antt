@@ -32,7 +32,7 @@ host_origin_sound config few = record {
   few_words = omega arith;
 }
 
--- ---- how many words there are
+-- ---- the number of words
 
 not-beyond : (n most : ℕ) → n ≤ most → nat_lt most n ≡ false
 not-beyond n most few = grind arith

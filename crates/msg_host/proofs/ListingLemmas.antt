@@ -24,7 +24,7 @@ use Rattle.msg_host.specs.Listing.{AreMeant, TellsRowsBack, UndoesRows, are_mean
 use Rattle.msg_host.specs.declared.fault.AskFault.{AskFault}
 use Rattle.msg_host.specs.declared.listing.ChangeRow.{ChangeRow}
 
--- no change is refused for want of room
+-- no change is refused for lack of room
 pub no_want_of_room : (f : ChangeFault) → change_fault_number f ≢ want_of_room
 no_want_of_room faults.NoClass e = absurd (omega (arith, e))
 no_want_of_room faults.NoImp e = absurd (omega (arith, e))
@@ -36,7 +36,7 @@ no_want_of_room faults.Memory e = absurd (omega (arith, e))
 no_want_of_room faults.DuplicateClass e = absurd (omega (arith, e))
 no_want_of_room faults.ClassInUse e = absurd (omega (arith, e))
 
--- ---- rows of which each means a change
+-- ---- rows each of which means a change
 
 ok-itself : (a : Result Change AskFault) → is_ok a ≡ true → a ≡ Ok (change_or_other a)
 ok-itself (Ok x) e = refl
@@ -96,7 +96,7 @@ rows_undone rows undo h n es (xs, meant, told) count written =
 
 -- ---- rows that are written
 
--- one row more
+-- one more row
 pub one-more : (rows : List ChangeRow) (count : ℕ) (r : ChangeRow) (xs : List Change) (x : Change) → count < length rows → change_in r ≡ Ok x → AreMeant (take count rows) xs
     → AreMeant (take (count + 1) (slice_set rows count r)) (xs ++ x ∷ [])
 one-more rows count r xs x inside is meant =

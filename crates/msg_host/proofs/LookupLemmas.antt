@@ -17,7 +17,7 @@ use Rattle.msg_host.specs.declared.fault.AskFault.{AskFault}
 use Rattle.msg_host.specs.declared.fault.AskFault.TheVariants.{NoClass, NoSelector, BadRow}
 use Rattle.msg_host.specs.declared.lookups.LookupRow.{LookupRow}
 
--- a lookup that is asked is by one of so many classes, and finds what the numbers say
+-- a lookup that is asked is by one of that many classes, and finds what the numbers say
 abbrev Fits : ℕ → History → Result Lookup AskFault → ℕ → Type 0
 Fits n h r found = ((lookup_or_other r).class.class < n) × (found_of h (lookup_or_other r) ≡ found)
 

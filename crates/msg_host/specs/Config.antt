@@ -42,7 +42,7 @@ default_arrays = 4096 ∷ 2048 ∷ 512 ∷ 256 ∷ 128 ∷ 64 ∷ 32 ∷ 16 ∷ 
 abbrev pub are_all_0 : List ℕ → Bool
 are_all_0 arrays = list_all (λ count. count == 0) arrays
 
--- how many arrays there are of each capacity
+-- the number of arrays of each capacity
 abbrev pub array_counts : HostConfig → List ℕ
 array_counts config = if are_all_0 config.arrays then default_arrays else config.arrays
 

@@ -9,7 +9,7 @@ use Rattle.msg_runtime.specs.View.{RuntimeView}
 use Rattle.msg_host.specs.declared.runtime.HostedRuntime.TheInside.{Inside as RuntimeInside}
 use Rattle.msg_host.specs.declared.sender.HostedSender.TheInside.{Inside as SenderInside}
 
--- what contracts see of a runtime
+-- the contracts' view of a runtime
 abbrev pub runtime_view : RuntimeInside → RuntimeView
 runtime_view r = r.runtime
 
@@ -22,7 +22,7 @@ pub record AreOfOne (r : RuntimeInside) : Type 0 where
   pub few_classes : r.classes ≤ MAX_CLASSES
   pub history : r.runtime.keeper.history.origin ≡ r.runtime.arena.key.origin
 
--- what contracts see of a sender
+-- the contracts' view of a sender
 abbrev pub sender_view : SenderInside → SenderView
 sender_view s = record { arena = arc_value s.arena; seen = s.reader.sender }
 

@@ -31,7 +31,7 @@ use Rattle.msg_host.specs.declared.listing.RowsUnmade.{RowsUnmade}
 use Rattle.msg_host.specs.declared.listing.RowsUnmade.TheVariants.{Fault, TooLong}
 use Rattle.msg_host.specs.declared.listing.RowFault.{RowFault}
 
--- the class reference of a number: 0 beside it is for the class, 1 for its metaclass
+-- the class reference of a number: a 0 next to it is for the class, a 1 for its metaclass
 abbrev pub ref_in : ℕ → ℕ → Result ClassRef AskFault
 ref_in k meta = if meta == 0 then Ok (ref_of k false) else (if meta == 1 then Ok (ref_of k true) else Err BadRow)
 
@@ -62,7 +62,7 @@ abbrev pub making_row : ℕ → Option ℕ → ChangeRow
 making_row k None = class_row 6 k 0
 making_row k (Some d) = class_row 5 k d
 
--- the row that means what takes an entry back
+-- the row of the change that takes an entry back
 abbrev pub undoing : Entry → ChangeRow
 undoing (Added c s) = method_row 7 c s 0
 undoing (Rewrote c s i) = method_row 2 c s (imp_number i)
@@ -113,12 +113,12 @@ read (Err f) = Err f
 abbrev pub are_meant : List ChangeRow → Bool
 are_meant rows = list_all (λ r. is_ok (change_in r)) rows
 
--- the change, where there is one; else some other
+-- the change, if there is one; else some other
 abbrev pub change_or_other : Result Change AskFault → Change
 change_or_other (Ok x) = x
 change_or_other (Err f) = AddClass 0 None
 
--- the changes of rows of which each means one
+-- the changes of rows each of which means one
 abbrev pub changes_in : List ChangeRow → List Change
 changes_in rows = map (λ r. change_or_other (change_in r)) rows
 
@@ -140,30 +140,31 @@ IsBadRow rows place n = (before : List Change) × AreMeant (take place rows) bef
 abbrev pub IsRefusedRow : List ChangeRow → History → ℕ → ℕ → Type 0
 IsRefusedRow rows h place n = (xs : List Change) × AreMeant rows xs × (f : ChangeFault) × (refused_from 0 (log h) xs ≡ Some (place, f)) × (n ≡ change_fault_number f)
 
--- rows are taken as changes of which one is refused at a history: the row of this place means none,
+-- rows are taken as changes one of which is refused at a history: the row of this place means none,
 -- or is the first that would be refused
 abbrev pub AreRefusedRows : List ChangeRow → History → ℕ → ℕ → Type 0
 AreRefusedRows rows h place n = IsBadRow rows place n ⊎ IsRefusedRow rows h place n
 
--- so it is, where the fault isn't want of memory
+-- the same, if the fault isn't a lack of memory
 abbrev pub AreRowsRefusedAt : List ChangeRow → History → ℕ → ℕ → Type 0
 AreRowsRefusedAt rows h place n = n ≢ want_of_memory → AreRefusedRows rows h place n
 
--- where memory was wanting each row means a change, neither those before this place would be
--- refused nor that at it, and there is too little room for these
+-- If memory was lacking, each row means a change. Neither those before this place nor that at it
+-- would be refused, and there is too little room for these.
 abbrev pub LackMemoryAt : List ChangeRow → RuntimeView → ℕ → Type 0
 LackMemoryAt rows v place = (xs : List Change) × AreMeant rows xs × (refused_from 0 (log v.keeper.history) (take (place + 1) xs) ≡ None) × LacksRoomFor v (take (place + 1) xs)
 
--- so it is where that is the number
+-- the same, if that is the number
 abbrev pub LackMemoryIf : List ChangeRow → RuntimeView → ℕ → ℕ → Type 0
 LackMemoryIf rows v place n = n ≡ want_of_memory → LackMemoryAt rows v place
 
--- the changes that the rows mean would be made, and so many take them back
+-- the changes that the rows mean would be made, and this is the number of those that take them back
 abbrev pub WeighRows : List ChangeRow → History → ℕ → Type 0
 WeighRows rows h n = (xs : List Change) × AreMeant rows xs × (refused_from 0 (log h) xs ≡ None) × (n ≡ length (undo_all (table (log h)) xs))
 
--- Why the changes of rows aren't made of a runtime: the number of a fault at the place of a row. But
--- for want of memory, that row means no change, or its change is the first that would be refused.
+-- Why the changes of rows aren't made in a runtime: the number of a fault at the place of a row.
+-- Unless memory is lacking, that row means no change, or its change is the first that would be
+-- refused.
 pub record IsRowFault (rows : List ChangeRow) (v : RuntimeView) (r : RowFault) : Type 0 where
   pub some : r.number ≢ 0
   pub room : r.number ≢ want_of_room
@@ -171,35 +172,36 @@ pub record IsRowFault (rows : List ChangeRow) (v : RuntimeView) (r : RowFault) :
   pub fault : AreRowsRefusedAt rows v.keeper.history r.place r.number
   pub memory : LackMemoryIf rows v r.place r.number
 
--- why they aren't: such a fault, or that their way back has so many changes, more than it may have
+-- why they aren't made: such a fault, or the number of changes of their way back, which is more
+-- than it may have
 abbrev pub AreUnmadeRows : List ChangeRow → RuntimeView → ℕ → RowsUnmade → Type 0
 AreUnmadeRows rows v most (Fault r) = IsRowFault rows v r
 AreUnmadeRows rows v most (TooLong n) = WeighRows rows v.keeper.history n × (most < n)
 
--- what was written tells the way back from the changes that the rows mean, directly after they are
+-- what was written gives the way back from the changes that the rows mean, directly after they are
 -- made at a history
 abbrev pub TellsRowsBack : List ChangeRow → History → List Entry → Type 0
 TellsRowsBack rows h entries = (xs : List Change) × AreMeant rows xs × TellsWayBack xs h entries
 
--- so many rows mean what takes back the changes that these mean, directly after they are made at a
--- history
+-- this number of rows mean the changes that take back those of these rows, directly after they are
+-- made at a history
 abbrev pub UndoesRows : List ChangeRow → History → List ChangeRow → ℕ → Type 0
 UndoesRows rows h undo n = (xs : List Change) × AreMeant rows xs × AreMeant (take n undo) (undo_all (table (log h)) xs)
 
--- the changes that the rows mean would be made, and what they may alter is marked beside what was
+-- the changes of the rows would be made, and what they may alter is marked, in addition to what was
 abbrev pub ReachesRows : List ChangeRow → History → ℕ → List Bool → List Bool → Type 0
 ReachesRows rows h n old new = (xs : List Change) × AreMeant rows xs × (refused_from 0 (log h) xs ≡ None) × MarksAffectedByAll n (log h) xs old new
 
--- so it is of a runtime
+-- the same for a runtime
 abbrev pub ReachesRowsOf : RuntimeView → List ChangeRow → List Bool → List Bool → Type 0
 ReachesRowsOf v rows old new = ReachesRows rows v.keeper.history (classes v.arena) old new
 
--- what the changes before a row of this place may alter is marked beside what was
+-- what the changes before a row of this place may alter is marked, in addition to what was
 abbrev pub ReachesRowsBefore : RuntimeView → List ChangeRow → ℕ → List Bool → List Bool → Type 0
 ReachesRowsBefore v rows place old new = (xs : List Change) × AreMeant rows xs × MarksAffectedByAll (classes v.arena) (log v.keeper.history) (take place xs) old new
 
--- A row that means no change leaves the marks. Where its change is the first that would be refused,
--- what those before it may alter is marked.
+-- A row that means no change leaves the marks unchanged. If its change is the first that would be
+-- refused, what those before it may alter is marked.
 abbrev pub RefusesToReach : RuntimeView → List ChangeRow → ℕ → ℕ → List Bool → List Bool → Type 0
 RefusesToReach v rows place n old new =
     (IsBadRow rows place n × (new ≡ old))

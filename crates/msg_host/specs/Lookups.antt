@@ -15,7 +15,7 @@ use Rattle.msg_host.specs.declared.fault.AskFault.{AskFault}
 use Rattle.msg_host.specs.declared.fault.AskFault.TheVariants.{NoClass, NoSelector, BadRow}
 use Rattle.msg_host.specs.declared.lookups.LookupRow.{LookupRow}
 
--- the lookup of a class, or of its metaclass, and a selector, where there are so many classes
+-- the lookup of a class, or of its metaclass, and a selector, among this number of classes
 abbrev pub lookup_by : ℕ → ℕ → Bool → ℕ → Result Lookup AskFault
 lookup_by n class meta sel = if nat_lt class n then (if sel == 0 then Err NoSelector else Ok (record { class = ref_of class meta; sel = selector_of sel })) else Err NoClass
 
@@ -27,12 +27,12 @@ lookup_in n r = if r.meta == 0 then lookup_by n r.class false r.sel else (if r.m
 abbrev pub are_asked : ℕ → List LookupRow → Bool
 are_asked n rows = list_all (λ r. is_ok (lookup_in n r)) rows
 
--- the lookup, where there is one; else some other
+-- the lookup, if there is one; else some other
 abbrev pub lookup_or_other : Result Lookup AskFault → Lookup
 lookup_or_other (Ok k) = k
 lookup_or_other (Err f) = record { class = ref_of 0 false; sel = selector_of 1 }
 
--- the lookups of rows of which each means one
+-- the lookups of rows each of which means one
 abbrev pub lookups_in : ℕ → List LookupRow → List Lookup
 lookups_in n rows = map (λ r. lookup_or_other (lookup_in n r)) rows
 
@@ -41,13 +41,15 @@ abbrev pub IsBadLookup : ℕ → List LookupRow → ℕ → ℕ → Type 0
 IsBadLookup n rows place number = (are_asked n (take place rows) ≡ true)
     × (r : LookupRow) × (slice_get rows place ≡ Some r) × (f : AskFault) × (lookup_in n r ≡ Err f) × (number ≡ ask_fault_number f)
 
--- Why rows aren't answered, where answers have so many places: that is another number of places,
--- and no place of a row is told; or the row of the place that is told means no lookup.
+-- Why rows aren't answered, if there are this number of places for results. Either that is another
+-- number of places, and no place of a row is written; or the row of the place that is written means
+-- no lookup.
 abbrev pub AreRefusedLookups : ℕ → List LookupRow → ℕ → ℕ → ℕ → ℕ → Type 0
 AreRefusedLookups n rows places old new number =
     ((number ≡ want_of_room) × (places ≢ length rows) × (new ≡ old)) ⊎ ((number ≢ want_of_room) × (places ≡ length rows) × IsBadLookup n rows new number)
 
--- They are answered: answers have as many places, and each row means a lookup. No place is told.
+-- The rows are answered: there are as many places for results, and each row means a lookup. No
+-- place is written.
 abbrev pub AreTakenLookups : ℕ → List LookupRow → ℕ → ℕ → ℕ → Type 0
 AreTakenLookups n rows places old new = (places ≡ length rows) × (are_asked n rows ≡ true) × (new ≡ old)
 
@@ -62,7 +64,7 @@ abbrev pub AreRowsFoundAt : History → List LookupRow → List ℕ → Type 0
 AreRowsFoundAt h rows imps = imps ≡ map (row_found h) rows
 
 -- A sender's view went from v to w. These are what the lookups of the rows find, all at one
--- history: no older than what it had seen, and it has seen that then.
+-- history. It is no older than what the sender had seen, and the sender has then seen it.
 abbrev pub AreRowsFound : Seen → Seen → List LookupRow → List ℕ → Type 0
 AreRowsFound v w rows imps = (h : History) × BeginsWith h v.front × BeginsWith w.front h × AreRowsFoundAt h rows imps
 
@@ -82,7 +84,7 @@ RowsMissOne a rows v w = MissOne a (lookups_in (classes a) rows) v w
 abbrev pub RowsAreNoted : ArenaView → Notes → Seen → Seen → List LookupRow → List ℕ → Type 0
 RowsAreNoted a n v w rows imps = AreNoted n v w (lookups_in (classes a) rows) imps
 
--- so it is where they were answered at this history
+-- the same, if they were answered at this history
 abbrev pub RowsAreNotedOrAt : ArenaView → History → Notes → Seen → Seen → List LookupRow → List ℕ → Type 0
 RowsAreNotedOrAt a h n v w rows imps = AreNotedOrAt h n v w (lookups_in (classes a) rows) imps
 

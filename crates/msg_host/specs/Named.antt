@@ -38,11 +38,11 @@ setting class meta sel imp = SetImp (ref_of class meta) (selector_of sel) (imp_r
 abbrev pub exchange : ClassRef → ℕ → ClassRef → ℕ → Change
 exchange c sel d other = Exchange c (selector_of sel) d (selector_of other)
 
--- a change of a selector's methods was answered, where the selector's number isn't 0
+-- the result of a change of a selector's methods, if the selector's number isn't 0
 abbrev pub AnswersFor : ℕ → RuntimeView → RuntimeView → Change → ℕ → Type 0
 AnswersFor sel v w x n = 0 < sel → AnswersChange v w x n
 
--- an exchange of two selectors' methods was, where neither number is 0
+-- the result of an exchange of two selectors' methods, if neither number is 0
 abbrev pub AnswersExchange : RuntimeView → RuntimeView → ClassRef → ℕ → ClassRef → ℕ → ℕ → Type 0
 AnswersExchange v w c sel d other n = 0 < sel → 0 < other → AnswersChange v w (exchange c sel d other) n
 
@@ -50,11 +50,11 @@ AnswersExchange v w c sel d other n = 0 < sel → 0 < other → AnswersChange v 
 abbrev pub attachment : ℕ → List MethodRow → List MethodRow → Change
 attachment class methods class_methods = Attach class (pairs_of methods) (pairs_of class_methods)
 
--- with the answer 0 it was attached
+-- with the result 0 it was attached
 abbrev pub TellsAttached : RuntimeView → RuntimeView → ℕ → List MethodRow → List MethodRow → ℕ → Type 0
 TellsAttached v w class methods class_methods n = n ≡ 0 → AnswersChange v w (attachment class methods class_methods) 0
 
--- another answer says why not: one of its lists isn't taken, or the change is refused
+-- another result says why not: one of its lists isn't taken, or the change is refused
 abbrev pub TellsAttachFault : RuntimeView → RuntimeView → ℕ → List MethodRow → List MethodRow → ℕ → Type 0
 TellsAttachFault v w class methods class_methods n =
     n ≢ 0 → IsListFault methods n ⊎ IsListFault class_methods n ⊎ AnswersChange v w (attachment class methods class_methods) n

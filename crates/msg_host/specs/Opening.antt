@@ -8,7 +8,7 @@ use Rattle.msg_runtime.specs.declared.runtime.TheConstants.{OPENING_ENTRIES}
 use Rattle.msg_host.specs.declared.config.HostConfig.{HostConfig}
 
 -- The runtime has the history without changes of the config's class numbers, and an arena of its
--- senders and arrays, of which none is out, and room for what an exchange notes. No sender has
+-- senders and arrays, none of which is out, and room for what an exchange notes. No sender has
 -- rested.
 pub record OpensAs (config : HostConfig) (v : RuntimeView) : Type 0 where
   pub history : v.keeper.history ≡ empty (host_origin config)

@@ -1,4 +1,4 @@
--- What contracts see of a sender's handle. What stands behind the lock is seen as its runtime.
+-- The contracts' view of a sender's handle. What is behind the lock is seen as its runtime.
 use Rattle.msg_cache.specs.Views.{ArenaView}
 use Rattle.msg_cache.specs.declared.view.SenderView.{SenderView as Seen}
 

@@ -1,4 +1,4 @@
--- That each list of rows has a way back.
+-- Each list of rows has a way back.
 use Rattle.std.specs.Prelude.{◌≡◌, ◌≤◌, ◌+◌, ℕ, List, None, false, length, take}
 use Rattle.msg_names.specs.declared.value.ClassRef.{ClassRef}
 use Rattle.msg_tables.specs.History.{log, lookup}
@@ -13,8 +13,8 @@ use Rattle.msg_host.specs.declared.config.HostConfig.{HostConfig}
 use Rattle.msg_host.specs.declared.config.TheConstants.{HOST_CHANGES}
 use Rattle.msg_host.specs.declared.listing.ChangeRow.{ChangeRow}
 
--- The rows take a runtime back from w to what it was at v. They are accepted, as long as so many
--- changes are, each lookup is then what it was, and they don't want memory.
+-- The rows take a runtime back from w to what it was at v. They are accepted, as long as that many
+-- changes are. Each lookup is then what it was, and they need no memory.
 pub record TakesBack (rows : List ChangeRow) (v w : RuntimeView) : Type 0 where
   pub changes : List Change
   pub meant : AreMeant rows changes
@@ -28,6 +28,6 @@ pub record IsHosts (config : HostConfig) (v : RuntimeView) : Type 0 where
   pub origin : v.keeper.history.origin ≡ host_origin config
   pub log : IsLog (log v.keeper.history)
 
--- So it is of the rows that are written where a list of rows is made, directly after it.
+-- This holds for the rows that are written when a list of rows is made, directly after it.
 abbrev pub EveryListHasWayBack : Type 0
 EveryListHasWayBack = (config : HostConfig) (v w : RuntimeView) (rows undo : List ChangeRow) (n : ℕ) → IsHosts config v → MakesRows rows v w → UndoesRows rows v.keeper.history undo n → TakesBack (take n undo) v w

@@ -13,7 +13,7 @@ use msg_names::ClassRef;
 
 impl HostedRuntime {
     /// `class_getMethodImplementation`: the number of the implementation that a lookup finds now,
-    /// or of forwarding. No cache is looked at or filled.
+    /// or of forwarding. It reads and fills no cache.
     pub fn lookup(&self, class: u32, meta: bool, sel: u32) -> Result<u32, AskFault>
         ensures found { IfOk result (λ i. i ≡ lookup self.now.keeper.history (ref_of class meta) sel) }
         ensures listed { IfOk result (λ i. i ≤ last_imp self.now.keeper.history.origin.counts) }
@@ -24,7 +24,7 @@ impl HostedRuntime {
         Ok(self.runtime.lookup(class, sel).number())
     }
 
-    /// The class reference at which the method stands that `class_getInstanceMethod` finds.
+    /// The class reference that has the method which `class_getInstanceMethod` finds.
     pub fn holder(&self, class: u32, meta: bool, sel: u32) -> Result<Option<ClassRef>, AskFault>
         ensures found { IfOk result (λ p. p ≡ holder self.now.keeper.history (ref_of class meta) sel) }
         ensures ok { OnOk result (ask_fault (classes self.now.arena) class sel ≡ None) }

@@ -20,7 +20,7 @@ pub struct MethodRow {
     pub imp: u32,
 }
 
-// The method list of rows, or the number of the fault.
+// Makes the method list of rows, or returns the number of the fault.
 fn method_list(alloc: Global, rows: &[MethodRow]) -> Result<MethodList, u32>
     ensures ok { IfOk result (λ m. m ≡ pairs_of rows.now) }
     ensures err { IfErr result (λ n. IsListFault rows.now n) }
@@ -39,7 +39,7 @@ fn method_list(alloc: Global, rows: &[MethodRow]) -> Result<MethodList, u32>
 }
 
 impl HostedRuntime {
-    // Makes a change. 0, or the number of the fault.
+    // Makes a change. Returns 0, or the number of the fault.
     #[tactic(auto, using(crate::proofs::ChangingLemmas::memory_of_number))]
     fn make(&mut self, change: &Change) -> u32
         ensures { AnswersChange self.old self.new change.now result }
@@ -50,7 +50,7 @@ impl HostedRuntime {
         }
     }
 
-    /// `class_addMethod`. 0, or the number of the fault, after which nothing has changed.
+    /// `class_addMethod`. Returns 0, or the number of the fault, after which nothing has changed.
     pub fn add(&mut self, class: u32, meta: bool, sel: u32, imp: u32) -> u32
         ensures no_selector { LacksSelector self.old self.new sel result }
         ensures change { AnswersFor sel self.old self.new (addition class meta sel imp) result }
@@ -65,7 +65,7 @@ impl HostedRuntime {
         }
     }
 
-    /// `class_replaceMethod`, alike.
+    /// `class_replaceMethod`, with the same results.
     pub fn replace(&mut self, class: u32, meta: bool, sel: u32, imp: u32) -> u32
         ensures no_selector { LacksSelector self.old self.new sel result }
         ensures change { AnswersFor sel self.old self.new (replacement class meta sel imp) result }
@@ -80,7 +80,8 @@ impl HostedRuntime {
         }
     }
 
-    /// `method_setImplementation` of the method that `class_getInstanceMethod` finds, alike.
+    /// `method_setImplementation` of the method that `class_getInstanceMethod` finds, with the same
+    /// results.
     pub fn set(&mut self, class: u32, meta: bool, sel: u32, imp: u32) -> u32
         ensures no_selector { LacksSelector self.old self.new sel result }
         ensures change { AnswersFor sel self.old self.new (setting class meta sel imp) result }
@@ -95,7 +96,8 @@ impl HostedRuntime {
         }
     }
 
-    /// `method_exchangeImplementations` of two methods that `class_getInstanceMethod` finds, alike.
+    /// `method_exchangeImplementations` of two methods that `class_getInstanceMethod` finds, with
+    /// the same results.
     pub fn exchange(&mut self, class: ClassRef, sel: u32, other: ClassRef, other_sel: u32) -> u32
         ensures no_selector { LacksSelector self.old self.new sel result }
         ensures no_other { LacksSelector self.old self.new other_sel result }
@@ -113,7 +115,7 @@ impl HostedRuntime {
     }
 
     /// Attaches a category, as `attachCategories` does: methods for the class, and others for its
-    /// metaclass. Alike.
+    /// metaclass. The results are the same.
     pub fn attach(
         &mut self,
         alloc: Global,
@@ -143,16 +145,16 @@ impl HostedRuntime {
         })
     }
 
-    /// `objc_allocateClassPair` with `objc_registerClassPair`, alike: makes a class, without
-    /// methods, under a superclass or as a root class.
+    /// `objc_allocateClassPair` with `objc_registerClassPair`, with the same results: makes a
+    /// class, without methods, below a superclass or as a root class.
     pub fn make_class(&mut self, class: u32, superclass: Option<u32>) -> u32
         ensures { AnswersChange self.old self.new (Change.AddClass class superclass) result }
     {
         self.make(&Change::AddClass { class, superclass })
     }
 
-    /// `class_removeMethod`, alike: the class's own method leaves, and one that it covered counts
-    /// again.
+    /// `class_removeMethod`, with the same results: removes the class's own method. A method that
+    /// it covered counts again.
     pub fn remove(&mut self, class: u32, meta: bool, sel: u32) -> u32
         ensures no_selector { LacksSelector self.old self.new sel result }
         ensures change { AnswersFor sel self.old self.new (removal class meta sel) result }
@@ -166,8 +168,8 @@ impl HostedRuntime {
         }
     }
 
-    /// `objc_disposeClassPair`, alike: a class that was made leaves with its metaclass and the
-    /// methods of both, where none is below it.
+    /// `objc_disposeClassPair`, with the same results: removes a class that was made and has no
+    /// class below it, with its metaclass and the methods of both.
     pub fn dispose_class(&mut self, class: u32) -> u32
         ensures { AnswersChange self.old self.new (Change.DisposeClass class) result }
     {

@@ -1,4 +1,4 @@
-//! How much a runtime has room for.
+//! The size of a runtime.
 
 ghost use Rattle.std.specs.Prelude.{◌≡◌, ◌≤◌, IfSome, None, false, is_some, is_none};
 ghost use Rattle.msg_cache.specs.Config.{refusal_of};
@@ -12,46 +12,46 @@ use std::alloc::Global;
 /// The most class numbers that are reserved.
 pub const MOST_CLASSES: u32 = 1_048_576;
 
-/// So many are by default.
+/// The number of class numbers that are reserved by default.
 pub const DEFAULT_CLASSES: u32 = 16_384;
 
 /// The most senders.
 pub const MOST_SENDERS: u32 = 16_384;
 
-/// So many are by default.
+/// The number of senders by default.
 pub const DEFAULT_SENDERS: u32 = 1_024;
 
 /// The most arrays of a capacity.
 pub const MOST_ARRAYS: u32 = 65_535;
 
-/// How many arrays there are of each capacity by default.
+/// The number of arrays of each capacity by default.
 pub const DEFAULT_ARRAYS: [u16; 9] = [4096, 2048, 512, 256, 128, 64, 32, 16, 8];
 
-/// How many methods may stand at any time.
+/// The most methods that there may be at any time.
 pub const HOST_ROWS: u64 = 4_294_967_296;
 
-/// How many changes are accepted.
+/// The number of changes that are accepted.
 pub const HOST_CHANGES: u64 = 281_474_976_710_656;
 
-/// How many words caches may use: more than the most of each field come to.
+/// The most words that caches may use. It is more than the most of each field add up to.
 pub const HOST_WORDS: u32 = 268_435_456;
 
-// How many words a config has.
+// The number of words of a config.
 const CONFIG_WORDS: usize = 11;
 
-/// What a host asks for. A number 0 is the default.
+/// The size that a host asks for. A number 0 stands for the default.
 #[derive(Clone, Copy, Debug, PartialEq, Eq)]
 pub struct HostConfig {
-    /// How many class numbers are reserved, from 0.
+    /// The number of class numbers that are reserved, from 0.
     pub classes: u32,
-    /// How many senders there may be.
+    /// The most senders that there may be.
     pub senders: u32,
-    /// How many arrays there are of 4 buckets, of 8, and so on up to 1,024. Where each is 0 they
-    /// are the default.
+    /// The numbers of arrays of 4 buckets, of 8, and so on up to 1,024. If all are 0, they are the
+    /// default.
     pub arrays: [u32; 9],
 }
 
-// The word at a place, and 0 beyond the end.
+// The word at a place, or 0 beyond the end.
 fn word(words: &[u32], place: usize) -> u32
     ensures { result ≡ word_at words.now place }
 {
@@ -68,14 +68,14 @@ fn known(words: &[u32]) -> bool
     words.iter().skip(CONFIG_WORDS).all(|word| *word == 0)
 }
 
-// The number itself, or the default in place of 0.
+// The number itself, or the default if it is 0.
 fn or_default(default: u32, number: u32) -> u32
     ensures { result ≡ spec.or_default default number }
 {
     if number == 0 { default } else { number }
 }
 
-// A count of arrays that isn't beyond the most.
+// A count of arrays, if it isn't above the most.
 fn short(count: u32) -> u16
     requires { count ≤ MOST_ARRAYS }
     ensures { result ≡ count }
@@ -90,7 +90,7 @@ fn are_all_0(arrays: &[u32; 9]) -> bool
     arrays.iter().all(|count| *count == 0)
 }
 
-// Whether some count of arrays is beyond the most.
+// Whether some count of arrays is above the most.
 fn are_beyond(arrays: &[u32; 9]) -> bool
     ensures { result ≡ spec.are_beyond arrays.now }
 {
@@ -98,8 +98,8 @@ fn are_beyond(arrays: &[u32; 9]) -> bool
 }
 
 impl HostConfig {
-    /// The config that words spell, one field after another. Fields beyond the last word are 0, and
-    /// words beyond the last field have to be.
+    /// Reads a config from words, one field after another. Fields beyond the last word are 0, and
+    /// words beyond the last field have to be 0.
     pub fn of_words(words: &[u32]) -> Option<HostConfig>
         ensures config { IfSome result (λ config. config ≡ config_of words.now) }
         ensures known { is_some result ≡ are_known words.now }
@@ -124,14 +124,14 @@ impl HostConfig {
         })
     }
 
-    // Whether a field is beyond its most.
+    // Whether a field is above its most.
     fn is_beyond(&self) -> bool
         ensures { result ≡ is_beyond self.now }
     {
         self.classes > MOST_CLASSES || self.senders > MOST_SENDERS || are_beyond(&self.arrays)
     }
 
-    // How many arrays there are of each capacity, where none is beyond the most.
+    // The number of arrays of each capacity, if none is above the most.
     fn array_counts(&self) -> [u16; 9]
         requires { spec.are_beyond self.now.arrays ≡ false }
         ensures { result ≡ array_counts self.now }
@@ -146,7 +146,7 @@ impl HostConfig {
         counts
     }
 
-    // What the arena is to have, unless a field is beyond its most: then it has no fault.
+    // The size of the arena, unless a field is above its most. It then has no fault.
     #[tactic(auto, using(crate::proofs::ConfigLemmas::host_arena_fits))]
     pub(crate) fn arena(&self) -> Option<Config>
         ensures config { IfSome result (λ config. config ≡ arena_config self.now) }
@@ -162,7 +162,7 @@ impl HostConfig {
         })
     }
 
-    // What the runtime's history begins with.
+    // The origin of the runtime's history.
     #[tactic(auto, using(crate::proofs::ConfigLemmas::host_origin_sound))]
     pub(crate) fn origin(&self, alloc: Global) -> Origin
         requires { self.now.classes ≤ MOST_CLASSES }

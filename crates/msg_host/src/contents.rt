@@ -1,7 +1,7 @@
-//! What there is: the methods of a class reference, and classes, in numbers.
+//! The contents of a runtime in numbers: the methods of a class reference, and classes.
 
 ghost use Rattle.std.specs.Prelude.{◌≡◌, ◌<◌, ◌≤◌, ◌++◌, drop, length, reverse, None, Some, IfOk, IfErr, OnErr, OnOk};
-ghost use Rattle.msg_tables.specs.Methods.{method_number, method_numbers};
+ghost use Rattle.msg_rows.specs.Methods.{method_number, method_numbers};
 ghost use Rattle.msg_cache.specs.Views.{classes};
 ghost use Rattle.msg_host.specs.Asking.{ask_fault, pairs_of};
 ghost use Rattle.msg_host.specs.Contents.{ShowsMethods};
@@ -37,7 +37,7 @@ fn write_methods(methods: &[(Selector, ImpRef)], rows: &mut [MethodRow])
 
 impl HostedRuntime {
     /// `class_copyMethodList`: writes the methods that a class reference has itself, if there are
-    /// as many rows, and returns how many they are. The newest comes first: of those of one
+    /// as many rows, and returns their number. The newest comes first: of several methods with one
     /// selector a lookup finds the first.
     pub fn methods(&self, class: u32, meta: bool, rows: &mut [MethodRow]) -> Result<usize, AskFault>
         ensures shown { IfOk result (ShowsMethods self.now.keeper.history (ref_of class meta) rows.old rows.new) }
@@ -55,15 +55,15 @@ impl HostedRuntime {
     }
 
     /// `objc_getClassList`: writes the classes that are made, each after its superclass, if `room`
-    /// has as many places. Returns how many there are.
+    /// has as many places. Returns their number.
     pub fn classes(&self, room: &mut [u32]) -> usize
         ensures { ShowsClasses self.now.keeper.history room.old room.new result }
     {
         self.runtime.show_classes(room)
     }
 
-    /// Writes the classes below a class, if `room` has as many places, and returns how many there
-    /// are. It costs a walk over these.
+    /// Writes the classes below a class, if `room` has as many places, and returns their number. It
+    /// costs a walk over these classes.
     pub fn below(&mut self, class: u32, room: &mut [u32]) -> Result<usize, AskFault>
         ensures same { self.new ≡ self.old }
         ensures shown { IfOk result (ShowsBelow self.old.keeper.history class room.old room.new) }

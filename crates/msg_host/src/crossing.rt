@@ -1,9 +1,9 @@
-//! That what handles hold may go to another thread.
+//! Checks that what handles hold may go to another thread.
 
 use crate::runtime::HostedRuntime;
 use crate::sender::HostedSender;
 
-// Called at a type, this asks that its values may go to another thread.
+// A call at a type requires that its values may go to another thread.
 fn may_cross<T: Send>() {}
 
 /// A `HostedRuntime` may go to another thread.

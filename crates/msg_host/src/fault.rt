@@ -1,4 +1,4 @@
-//! Numbers that mean nothing.
+//! Faults of numbers that name nothing.
 
 ghost use Rattle.std.specs.Prelude.{◌≡◌, ◌≢◌, ◌<◌, ◌≤◌, None, Some, IfOk, IfErr, OnOk};
 ghost use Rattle.msg_names.specs.Number.{selector_of};
@@ -10,24 +10,25 @@ ghost use Rattle.msg_host.specs.declared.fault.SenderFault.TheVariants as sendin
 use msg_names::{ClassRef, Selector};
 use std::alloc::AllocError;
 
-/// Why a question in numbers isn't asked, or a change in numbers isn't made. Where both of the
-/// first two hold, the first is answered.
+/// Why a question in numbers isn't asked, or a change in numbers isn't made. If both of the first
+/// two faults hold, the first is returned.
 #[derive(Clone, Copy, Debug, PartialEq, Eq)]
 pub enum AskFault {
     /// No class has the number.
     NoClass,
-    /// The number is 0, which is no selector's.
+    /// The selector's number is 0, which no selector has.
     NoSelector,
-    /// A row of a list of changes is of no kind, or a row names neither a class nor its metaclass.
+    /// The kind of a row of a list of changes is unknown, or a row names neither a class nor its
+    /// metaclass.
     BadRow,
 }
 
-// The number of the fault that the array for an answer has too few places, or another count than is
-// asked for. No question or change is refused for it.
+// The number of the fault that the array for results has too few places, or a wrong number of
+// places. No question or change is refused for it.
 pub(crate) const NO_ROOM: u32 = 76;
 
 impl AskFault {
-    /// The number of the fault, which is no document's or change's.
+    /// The number of the fault, which is not the number of a document's or change's fault.
     pub fn number(self) -> u32
         ensures number { result ≡ ask_fault_number self }
         ensures room { result ≢ want_of_room }
@@ -44,7 +45,7 @@ impl AskFault {
 /// Why no runtime is opened.
 #[derive(Clone, Copy, Debug, PartialEq, Eq)]
 pub enum OpenFault {
-    /// A field of the config is beyond its most.
+    /// A field of the config is above its most.
     BadConfig,
     Memory,
 }
@@ -73,7 +74,7 @@ impl From<AllocError> for SenderFault {
     }
 }
 
-// The selector of a number.
+// The selector with a number.
 pub(crate) fn selector(number: u32) -> Result<Selector, AskFault>
     ensures ok { IfOk result (λ s. (0 < number) × (s ≡ selector_of number)) }
     ensures err { IfErr result (λ f. (number ≡ 0) × (f ≡ AskFault.NoSelector)) }
@@ -84,7 +85,7 @@ pub(crate) fn selector(number: u32) -> Result<Selector, AskFault>
     }
 }
 
-// The class of a number, where there are so many.
+// The class with a number, among this number of classes.
 pub(crate) fn asked_class(classes: u32, class: u32, meta: bool) -> Result<ClassRef, AskFault>
     ensures ok { IfOk result (λ c. (class < classes) × (c ≡ ref_of class meta)) }
     ensures err { IfErr result (λ f. (classes ≤ class) × (f ≡ AskFault.NoClass)) }
@@ -96,7 +97,7 @@ pub(crate) fn asked_class(classes: u32, class: u32, meta: bool) -> Result<ClassR
     }
 }
 
-// The class reference and the selector of the numbers, where there are so many classes.
+// The class reference and the selector with these numbers, among this number of classes.
 pub(crate) fn asked(
     classes: u32,
     class: u32,

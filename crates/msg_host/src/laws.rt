@@ -7,9 +7,9 @@ use msg_tables::list_laws::{
     parts_are_accepted_one_after_another,
 };
 
-/// Every list of rows that was made has a way back, which is written with it. Made directly
-/// afterwards, it is accepted, as long as so many changes are, it brings back each lookup, and it
-/// wants no memory.
+/// Every list of rows that was made has a way back, which is written with it. If it is made
+/// directly afterwards, it is accepted, as long as that many changes are. It restores each lookup,
+/// and needs no memory.
 pub fn every_list_of_rows_has_a_way_back()
     ensures { EveryListHasWayBack }
 {

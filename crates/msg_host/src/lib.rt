@@ -1,8 +1,8 @@
 //! What a host program's handles hold: a runtime behind the host's own lock, and senders that share
 //! its arena.
 //!
-//! The calls of `asking`, `changing`, `lookups` and `sending` take and give numbers, as a host in C
-//! has them, and refuse the numbers that mean nothing.
+//! The calls of `asking`, `changing`, `lookups` and `sending` take and return numbers, as a host in
+//! C has them, and refuse numbers that name nothing.
 #![tactic(auto)]
 
 mod asking;

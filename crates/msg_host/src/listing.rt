@@ -14,11 +14,11 @@ use msg_names::{ClassRef, ImpRef, Selector};
 use msg_runtime::Unmade;
 use msg_tables::{ChangeFault, ChangeList, ChangeRef, Refused};
 
-/// A change in numbers. Its kind says which call makes it alone, and it reads the fields that this
-/// call takes: 1 `add`, 2 `replace`, 3 `set`, 4 `exchange`, 5 `make_class` with the superclass in
-/// `other`, 6 `make_class` without one, 7 `remove`, 8 `dispose_class`, and 9 `attach` of one
-/// method, which covers what the class reference had. A class number with 0 beside it is the class,
-/// with 1 its metaclass.
+/// A change in numbers. Its kind says which call would make it on its own, and it uses the fields
+/// that this call takes: 1 `add`, 2 `replace`, 3 `set`, 4 `exchange`, 5 `make_class` with the
+/// superclass in `other`, 6 `make_class` without one, 7 `remove`, 8 `dispose_class`, and 9 `attach`
+/// of one method, which covers what the class reference had. A class number with a 0 next to it is
+/// the class, and with a 1 its metaclass.
 #[repr(C)]
 #[derive(Clone, Copy)]
 pub struct ChangeRow {
@@ -32,7 +32,7 @@ pub struct ChangeRow {
     pub other_sel: u32,
 }
 
-// Why the changes of rows aren't made, or what they reach isn't told: the place of a row, and the
+// Why the changes of rows aren't made, or what they affect isn't found: the place of a row, and the
 // number of its fault.
 #[derive(Clone, Copy)]
 pub(crate) struct RowFault {
@@ -41,7 +41,7 @@ pub(crate) struct RowFault {
 }
 
 impl RowFault {
-    // Of a list of changes that was refused.
+    // The fault of a list of changes that was refused.
     #[tactic(auto, using(crate::proofs::ListingLemmas::no_want_of_room, crate::proofs::ChangingLemmas::memory_of_number))]
     pub(crate) fn of(refused: Refused) -> RowFault
         ensures place { result.place ≡ refused.place }
@@ -55,7 +55,7 @@ impl RowFault {
         }
     }
 
-    // Writes the place down, and answers the number.
+    // Writes the place, and returns the number.
     pub(crate) fn tell(self, place: &mut usize) -> u32
         ensures place { place.new ≡ self.place }
         ensures number { result ≡ self.number }
@@ -65,7 +65,7 @@ impl RowFault {
     }
 }
 
-// The class reference of a number and of what stands beside it.
+// The class reference of a class number and of the number next to it.
 fn class_ref(class: u32, meta: u32) -> Result<ClassRef, AskFault>
     ensures { result ≡ ref_in class meta }
 {
@@ -93,7 +93,7 @@ impl ChangeRow {
         method_of_row(self.class, self.meta, self.sel)
     }
 
-    // The exchange of the two methods that it names.
+    // The exchange of the two methods that the row names.
     fn exchange<'c>(self) -> Result<ChangeRef<'c>, AskFault>
         ensures { read result ≡ exchange_in self }
     {
@@ -107,7 +107,7 @@ impl ChangeRow {
         })
     }
 
-    // The removal of the method that it names.
+    // The removal of the method that the row names.
     fn removal<'c>(self) -> Result<ChangeRef<'c>, AskFault>
         ensures { read result ≡ removal_in self }
     {
@@ -115,7 +115,7 @@ impl ChangeRow {
         Ok(ChangeRef::Remove { class, sel })
     }
 
-    // The category of the one method that it names.
+    // The category of the one method that the row names.
     fn cover<'c>(self) -> Result<ChangeRef<'c>, AskFault>
         ensures { read result ≡ covering_in self }
     {
@@ -124,7 +124,7 @@ impl ChangeRow {
         Ok(ChangeRef::Cover { class, sel, imp })
     }
 
-    // What becomes of the method that it names.
+    // The change of the method that the row names.
     #[inline(always)]
     fn with_imp<'c>(self) -> Result<ChangeRef<'c>, AskFault>
         requires { (self.kind ≡ 1) ⊎ (self.kind ≡ 2) ⊎ (self.kind ≡ 3) }
@@ -163,7 +163,7 @@ impl ChangeRow {
     }
 }
 
-// Rows of which each means a change.
+// Rows each of which means a change.
 #[derive(Clone, Copy)]
 pub(crate) struct MeantRows<'r> {
     rows: &'r [ChangeRow],
@@ -185,7 +185,7 @@ impl ChangeList for MeantRows<'_> {
     }
 }
 
-// The rows, where each means a change; or the first that means none.
+// The rows, if each means a change; or the first that means none.
 pub(crate) fn meant(rows: &[ChangeRow]) -> Result<MeantRows<'_>, RowFault>
     ensures rows { IfOk result (λ list. list.rows.now ≡ rows.now) }
     ensures ok { IfOk result (λ list. AreMeant rows.now (changes_in rows.now)) }
@@ -202,7 +202,7 @@ pub(crate) fn meant(rows: &[ChangeRow]) -> Result<MeantRows<'_>, RowFault>
     Ok(MeantRows { rows })
 }
 
-// Why the changes of rows aren't made: a fault, or that their way back has so many changes, which
+// Why the changes of rows aren't made: a fault, or the number of changes of their way back, which
 // is more than it may have.
 #[derive(Clone, Copy)]
 pub(crate) enum RowsUnmade {
@@ -211,8 +211,8 @@ pub(crate) enum RowsUnmade {
 }
 
 impl HostedRuntime {
-    // Makes the changes of rows as one, where their way back has at most so many, or says why not
-    // and changes nothing. What they wrote is noted.
+    // Makes the changes of rows as one, if their way back has at most this number of changes.
+    // Otherwise it returns why not, and changes nothing. What the changes wrote is noted.
     pub(crate) fn change_rows(&mut self, rows: &[ChangeRow], most: usize) -> Result<(), RowsUnmade>
         ensures arena { self.new.arena ≡ self.old.arena }
         ensures given { self.new.keeper.given ≡ self.old.keeper.given }
@@ -234,10 +234,10 @@ impl HostedRuntime {
         }
     }
 
-    /// Makes the changes of rows as one. 0, or the number of the fault, after which nothing has
-    /// changed; then `place` is that of the row, from 0, which means no change or is the first that
-    /// would be refused, or at which memory was wanting. Rows that mean no change are found before
-    /// any is made.
+    /// Makes the changes of rows as one. Returns 0, or the number of the fault, after which nothing
+    /// has changed. `place` is then the place of a row, from 0. The row means no change, or is the
+    /// first that would be refused or that lacks memory. Rows that mean no change are found before
+    /// any change is made.
     pub fn make_all(&mut self, rows: &[ChangeRow], place: &mut usize) -> u32
         ensures arena { self.new.arena ≡ self.old.arena }
         ensures given { self.new.keeper.given ≡ self.old.keeper.given }

@@ -15,8 +15,8 @@ use crate::runtime::HostedRuntime;
 use crate::sender::HostedSender;
 use msg_reader::{Lookup, LookupList, Notes};
 
-/// A lookup in numbers: of a selector by the class of that number, where 0 stands beside it, or by
-/// its metaclass, where 1 does.
+/// A lookup in numbers: of a selector from the class with that number, if a 0 is next to it, or
+/// from its metaclass, if a 1 is.
 #[repr(C)]
 #[derive(Clone, Copy)]
 pub struct LookupRow {
@@ -26,7 +26,7 @@ pub struct LookupRow {
 }
 
 impl LookupRow {
-    // The lookup by its class or by that one's metaclass, where there are so many classes.
+    // The lookup from its class or from the metaclass, among this number of classes.
     fn lookup_by(self, classes: u32, meta: bool) -> Result<Lookup, AskFault>
         ensures { result ≡ spec.lookup_by classes self.class meta self.sel }
     {
@@ -35,7 +35,7 @@ impl LookupRow {
         Ok(Lookup { class, sel })
     }
 
-    // The lookup that the row means, where there are so many classes.
+    // The lookup that the row means, among this number of classes.
     fn lookup(self, classes: u32) -> Result<Lookup, AskFault>
         ensures { result ≡ lookup_in classes self }
     {
@@ -47,7 +47,7 @@ impl LookupRow {
     }
 }
 
-// Rows of which each means a lookup, where there are so many classes.
+// Rows each of which means a lookup, among this number of classes.
 #[derive(Clone, Copy)]
 pub(crate) struct LookupRows<'r> {
     rows: &'r [LookupRow],
@@ -70,8 +70,8 @@ impl LookupList for LookupRows<'_> {
     }
 }
 
-// The rows, where answers have as many places and each means a lookup; or the number of the fault,
-// and the place of the first row that means none is written down.
+// The rows, if `imps` has as many places and each means a lookup. Otherwise it returns the number
+// of the fault, and writes the place of the first row that means none.
 fn judged<'r>(
     classes: u32,
     rows: &'r [LookupRow],
@@ -95,14 +95,14 @@ fn judged<'r>(
 }
 
 impl HostedSender {
-    /// Whether the lookups of rows were found, all at one point of the history. That is no older
-    /// than what the sender had seen, and it has then seen it. `imps` has the numbers of the
-    /// implementations, 0 for forwarding. No lock is wanted.
+    /// Whether the lookups of rows were found, all at one point of the history. That point is no
+    /// older than what the sender had seen, and the sender has then seen it. `imps` has the numbers
+    /// of the implementations, 0 for forwarding. The call needs no lock.
     ///
-    /// They aren't found where the notes and a cache lack one of them, or where a change that
-    /// affects the class reference of one has fallen among them. Then ask the runtime; what stands
-    /// in `imps` means nothing. An error is the number of a fault: 76 where `imps` has another
-    /// number of places, or that of the first row that means no lookup, with its place.
+    /// They aren't found if the notes and a cache lack one of them, or if a change that affects the
+    /// class reference of one has fallen among them. Then ask the runtime; `imps` has no meaning.
+    /// An error is the number of a fault: 76 if `imps` has another number of places, or that of the
+    /// first row that means no lookup, with its place.
     pub fn probe_all(
         &mut self,
         notes: &mut Notes,
@@ -130,14 +130,15 @@ impl HostedSender {
         ensures stamped { StayStamped (layout self.old.arena) notes.old notes.new }
     {
         let lookups = judged(self.class_count(), rows, imps.len(), place)?;
-        Ok(self.find_all(notes, &lookups, imps))
+        Ok(self.try_find_all(notes, &lookups, imps))
     }
 }
 
 impl HostedRuntime {
     /// Answers the lookups of rows by the numbers of the implementations, 0 for forwarding, all at
     /// the whole history, which the sender has then seen. What its notes lack is noted, and cached
-    /// if there is room. Or the number of a fault, as of [`probe_all`](HostedSender::probe_all).
+    /// if there is room. An error is the number of a fault, as for
+    /// [`probe_all`](HostedSender::probe_all).
     pub fn fill_all(
         &mut self,
         sender: &mut HostedSender,

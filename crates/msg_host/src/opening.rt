@@ -1,4 +1,4 @@
-//! What a runtime is opened of.
+//! Opens runtimes.
 
 ghost use Rattle.std.specs.Prelude.{◌≡◌, ◌≤◌, IfOk, None, false, replicate};
 ghost use Rattle.msg_tables.specs.History.{empty};
@@ -15,7 +15,7 @@ use msg_tables::Origin;
 use std::alloc::{AllocError, Global};
 use std::sync::Arc;
 
-// The arena of an origin and its keeper. The one error is want of memory.
+// Makes the arena of an origin and its keeper. The only error is a lack of memory.
 fn arena_of(alloc: Global, origin: &Origin, config: Config) -> Result<(Arena, Keeper), AllocError>
     requires { refusal_of origin.now config ≡ None }
     ensures key { IfOk result (λ r. r.0.key ≡ setting_of origin.now config) }
@@ -39,7 +39,8 @@ fn shared(alloc: Global, arena: Arena) -> Result<Arc<Arena, Global>, AllocError>
     }
 }
 
-// What shares an origin's caches, keeps them, and may change them. The one error is want of memory.
+// Makes what shares an origin's caches, what keeps them, and the right to change. The only error is
+// a lack of memory.
 pub(crate) fn opened(
     alloc: Global,
     origin: &Origin,

@@ -1,4 +1,4 @@
-//! What changes in numbers would reach.
+//! What changes in numbers would affect.
 
 ghost use Rattle.std.specs.Prelude.{◌≡◌, ◌≢◌, ◌<◌, ◌*◌, ◌⊎◌, IfErr, OnOk, length};
 ghost use Rattle.msg_cache.specs.Views.{classes};
@@ -10,8 +10,8 @@ use crate::listing::{ChangeRow, RowFault, meant};
 use crate::runtime::HostedRuntime;
 
 impl HostedRuntime {
-    // Marks what the changes of rows may alter if they are made as one, or says why they would be
-    // refused.
+    // Marks what the changes of rows may alter if they are made as one, or returns why they would
+    // be refused.
     fn rows_reach(&mut self, rows: &[ChangeRow], reached: &mut [bool]) -> Result<(), RowFault>
         requires { length reached.old ≡ 2 * classes self.old.arena }
         ensures same { IsLeft self.old self.new }
@@ -28,12 +28,12 @@ impl HostedRuntime {
     }
 
     /// Marks the class references whose lookups the changes of rows may alter if they are made as
-    /// one, beside those that are marked, and makes none. A class has its place at twice its
-    /// number, and its metaclass the next; there are so many places, or else 76 is answered and
-    /// nothing marked. 0, or the number of the fault for which they would be refused, with the
-    /// place of the row: of one that means no change, and then nothing is marked, or of the first
-    /// that would be refused, and then what those before it may alter is. Where memory is wanting
-    /// the marks say nothing.
+    /// one, in addition to those that are marked. It makes no change. A class has its place at
+    /// twice its number, and its metaclass has the next. If there aren't that many places, it
+    /// returns 76 and marks nothing. It returns 0, or the number of the fault for which the changes
+    /// would be refused, with the place of the row. If the row means no change, nothing is marked.
+    /// If it is the first that would be refused, what the changes before it may alter is marked. If
+    /// memory is lacking, the marks say nothing.
     pub fn reach_rows(&mut self, rows: &[ChangeRow], reached: &mut [bool], place: &mut usize) -> u32
         ensures same { IsLeft self.old self.new }
         ensures reached { result ≡ 0 → ReachesRowsOf self.old rows.now reached.old reached.new }

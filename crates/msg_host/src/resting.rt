@@ -1,4 +1,4 @@
-//! When old code can go.
+//! When old code may be unloaded.
 
 ghost use Rattle.std.specs.Prelude.{◌≡◌, length};
 ghost use Rattle.msg_tables.specs.History.{BeginsWith};
@@ -10,9 +10,9 @@ use crate::runtime::HostedRuntime;
 use crate::sender::HostedSender;
 
 impl HostedRuntime {
-    /// As [`meet`](HostedRuntime::meet), and it is noted after how many changes the sender rested.
-    /// The host says by it that nothing which the sender found before is in use: its thread runs no
-    /// such function, and keeps none to call.
+    /// Does the same as [`meet`](HostedRuntime::meet), and notes after how many changes the sender
+    /// rested. By the call the host says that nothing which the sender found before is in use: its
+    /// thread runs no such function, and keeps none to call.
     pub fn rest(&mut self, sender: &mut HostedSender)
         requires sender { sender.old.arena ≡ self.old.arena }
         ensures rested { self.new ≡ record self.old
@@ -27,9 +27,10 @@ impl HostedRuntime {
             .rest(&self.arena, &mut self.turn, &mut sender.reader);
     }
 
-    /// How many changes each sender that is out had seen when it rested last, or was given out: the
-    /// least of these, and all if none is out. Each has seen as many, so no later find of theirs is
-    /// older. It goes over all sender numbers.
+    /// For each sender that is out, take the number of changes that it had seen when it last rested
+    /// or was given out. Returns the least of these numbers, or the number of all changes if no
+    /// sender is out. Each sender has seen that many, so it finds nothing older from then on. It
+    /// goes over all sender numbers.
     pub fn seen_by_all(&self) -> u64
         ensures least { IsLeastOut self.now.keeper.given self.now.rested
             (length self.now.keeper.history.changes) result }

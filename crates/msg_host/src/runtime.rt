@@ -41,16 +41,16 @@ use std::alloc::Global;
 use std::marker::Model;
 use std::sync::Arc;
 
-/// What stands behind a host's runtime lock: a runtime, the right to change it, and the arena that
-/// its senders share.
+/// The data behind a host's runtime lock: a runtime, the right to change it, and the arena that its
+/// senders share.
 ///
-/// It is used by one thread at a time. Which one it is the host settles, by its lock.
+/// One thread at a time uses it. The host decides which, by its lock.
 #[derive(Drop)]
 pub struct HostedRuntime {
     pub(crate) arena: Arc<Arena, Global>,
     pub(crate) runtime: Runtime,
     pub(crate) turn: Turn,
-    // how many class numbers are reserved
+    // the number of class numbers that are reserved
     classes: u32,
 }
 
@@ -74,8 +74,8 @@ impl Model for HostedRuntime {
 impl HostedRuntime {
     /// Opens a runtime without classes, with no change made.
     ///
-    /// `BadConfig` is answered before memory is asked for. `Memory` may be answered wherever a
-    /// growth is refused.
+    /// `BadConfig` is returned before memory is allocated. `Memory` may be returned if an
+    /// allocation is refused.
     pub fn open(alloc: Global, config: HostConfig) -> Result<HostedRuntime, OpenFault>
         ensures ok { IfOk result (λ r. (is_beyond config ≡ false) × OpensAs config r) }
         ensures refused { IsErrOf result OpenFault.BadConfig → is_beyond config ≡ true }
@@ -94,7 +94,7 @@ impl HostedRuntime {
         })
     }
 
-    /// How many class numbers are reserved.
+    /// The number of class numbers that are reserved.
     pub fn class_count(&self) -> u32
         ensures count { result ≡ classes self.now.arena }
         ensures origin { self.now.keeper.history.origin ≡ self.now.arena.key.origin }
@@ -103,9 +103,9 @@ impl HostedRuntime {
     }
 
     /// Marks the class references whose lookups a list of changes may alter if it is made as one,
-    /// beside those that are marked, each at its slot, and doesn't make it; or says which of them
-    /// would be refused. Then what those before it may alter is marked; where memory is wanting,
-    /// the marks say nothing.
+    /// in addition to those that are marked, each at its slot. It doesn't make the list. If a
+    /// change would be refused, it returns which, and marks what the changes before it may alter.
+    /// If memory is lacking, the marks say nothing.
     pub fn reach_all<L: ChangeList>(
         &mut self,
         changes: &L,
@@ -125,7 +125,7 @@ impl HostedRuntime {
             .reach_all(&self.arena, &mut self.turn, changes, marked)
     }
 
-    /// Makes a change, flushes the caches that it reaches, and answers how many times changes were
+    /// Makes a change, flushes the caches that it affects, and returns how many times changes were
     /// made. After an error nothing was changed or flushed.
     pub fn change(&mut self, change: &Change) -> Result<u64, ChangeFault>
         ensures arena { self.new.arena ≡ self.old.arena }
@@ -144,13 +144,13 @@ impl HostedRuntime {
         self.runtime.change(&self.arena, &mut self.turn, change)
     }
 
-    /// Makes a list of changes as one, flushes the caches that it reaches, and answers how many
-    /// times changes were made; or says which of them would be refused, or that its way back has
-    /// more changes than it may have. After an error nothing was changed or flushed. An empty list
-    /// changes nothing and isn't counted.
+    /// Makes a list of changes as one, flushes the caches that it affects, and returns how many
+    /// times changes were made. The error says which change would be refused, or that the way back
+    /// has more changes than it may have. After an error nothing was changed or flushed. An empty
+    /// list changes nothing and isn't counted.
     ///
-    /// What the list wrote is noted: [`written`](HostedRuntime::written) tells the way back,
-    /// directly afterwards, and there is room for making that.
+    /// What the list wrote is noted. Directly afterwards [`written`](HostedRuntime::written) gives
+    /// the way back, and there is room for making that.
     pub fn change_all<L: ChangeList>(&mut self, changes: &L, most: usize) -> Result<u64, Unmade>
         ensures arena { self.new.arena ≡ self.old.arena }
         ensures ok { OnOk result (AreMade (L.changes changes.now) self.old.keeper.history self.new.keeper.history) }
@@ -177,7 +177,8 @@ impl HostedRuntime {
         self.runtime.written()
     }
 
-    /// How many times changes were made: a list of them counts as one. Each was accepted.
+    /// The number of times that changes were made: a list of changes counts as one. Each was
+    /// accepted.
     pub fn count(&self) -> u64
         ensures count { result ≡ length self.now.keeper.history.changes }
         ensures accepted { IsLog (log self.now.keeper.history) }
@@ -185,7 +186,7 @@ impl HostedRuntime {
         self.runtime.count()
     }
 
-    /// What was done to caches so far.
+    /// The counts of what was done to caches so far.
     pub fn report(&self) -> Report
         ensures value { result ≡ self.now.report }
         ensures counts { AreCounts result }
@@ -193,16 +194,16 @@ impl HostedRuntime {
         self.runtime.report()
     }
 
-    /// The address of the first of the words that all threads share. They lie there as long as the
-    /// runtime or a sender of it is there.
+    /// The address of the first of the words that all threads share. The words stay in place as
+    /// long as the runtime or a sender of it exists.
     pub fn words(&self) -> *const u64
         ensures { IsNotNull result }
     {
         self.arena.words()
     }
 
-    /// A sender, which has seen the whole history. There is none where as many are out as the
-    /// runtime has room for, and only there is `NoneFree` answered.
+    /// Returns a sender, which has seen the whole history. `NoneFree` is returned exactly if as
+    /// many senders are out as the runtime has room for.
     pub fn sender(&mut self) -> Result<HostedSender, SenderFault>
         ensures kept { self.new ≡ record self.old
             { keeper = self.new.keeper; rested = self.new.rested; report = self.new.report } }
@@ -296,7 +297,8 @@ impl HostedRuntime {
             .answer_all(&self.arena, &mut self.turn, reader, notes, lookups, imps);
     }
 
-    /// A sender has then seen the whole history, which begins with what it had seen.
+    /// Brings a sender up to date: it has then seen the whole history, which begins with what it
+    /// had seen.
     pub fn meet(&mut self, sender: &mut HostedSender)
         requires sender { sender.old.arena ≡ self.old.arena }
         ensures met { self.new ≡ record self.old { keeper = given_again sender.old.seen self.old.keeper } }
@@ -309,8 +311,8 @@ impl HostedRuntime {
             .meet(&self.arena, &mut self.turn, &mut sender.reader);
     }
 
-    /// Takes a sender back: its number isn't out then. The number of one that is dropped stays
-    /// used.
+    /// Takes a sender back: its number is then no longer out. The number of a sender that is
+    /// dropped instead stays in use.
     pub fn finish(&mut self, sender: HostedSender)
         requires sender { sender.arena ≡ self.old.arena }
         ensures { self.new ≡ record self.old { keeper = taken_in sender.seen self.old.keeper } }

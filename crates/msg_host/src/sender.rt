@@ -21,7 +21,7 @@ use std::marker::Model;
 use std::sync::Arc;
 
 /// Looks up without a lock, in the caches that it shares with all senders of its runtime. It never
-/// answers from before what it has seen.
+/// answers from an earlier point than it has seen.
 #[derive(Drop)]
 pub struct HostedSender {
     pub(crate) arena: Arc<Arena, Global>,
@@ -47,15 +47,15 @@ impl Model for HostedSender {
 }
 
 impl HostedSender {
-    /// How many classes have numbers.
+    /// The number of classes with numbers.
     pub fn class_count(&self) -> u32
         ensures { result ≡ classes self.now.arena }
     {
         self.classes
     }
 
-    /// How many changes there are, which the sender has then seen: nothing older is answered from
-    /// then on. No lock is wanted.
+    /// The number of changes, which the sender has then seen: from then on it answers from no
+    /// earlier point. The call needs no lock.
     pub fn refresh(&mut self) -> u64
         ensures arena { self.new.arena ≡ self.old.arena }
         ensures begins { BeginsWith self.new.seen.front self.old.seen.front }
@@ -65,8 +65,8 @@ impl HostedSender {
         self.reader.refresh(&self.arena)
     }
 
-    // The stamp of a class reference: no change after so many has affected it. The sender has then
-    // seen all changes.
+    // The stamp of a class reference: no change after that many has affected it. The sender has
+    // then seen all changes.
     pub(crate) fn load_stamp(&mut self, class: ClassRef) -> u64
         requires { class.class < classes self.old.arena }
         ensures arena { self.new.arena ≡ self.old.arena }
@@ -78,10 +78,10 @@ impl HostedSender {
         self.reader.stamp(&self.arena, class)
     }
 
-    // The implementation that the notes have, or else that the cache has: what a lookup finds at
+    // Returns the implementation from the notes, or else from the cache: what a lookup finds at
     // what the sender has then seen. What the notes have is noted again at the number of changes.
     #[inline]
-    pub(crate) fn find(
+    pub(crate) fn try_find(
         &mut self,
         notes: &mut Notes,
         class: ClassRef,
@@ -103,12 +103,12 @@ impl HostedSender {
             (MissesUnlessChanged self.new.arena class (selector_number sel) self.old.seen self.new.seen) }
     {
         a_slot_of_few_classes_is_short();
-        self.reader.find_counted(&self.arena, notes, class, sel)
+        self.reader.try_find_counted(&self.arena, notes, class, sel)
     }
 
     // Whether several lookups were found, by the notes or by caches, all at one point of the
     // history that the sender has then seen.
-    pub(crate) fn find_all<L: LookupList>(
+    pub(crate) fn try_find_all<L: LookupList>(
         &mut self,
         notes: &mut Notes,
         lookups: &L,
@@ -130,7 +130,7 @@ impl HostedSender {
         ensures missed { result ≡ false → MissOne self.old.arena (L.lookups lookups.now) self.old.seen self.new.seen }
     {
         self.reader
-            .find_all(&self.arena, notes, lookups, imps)
+            .try_find_all(&self.arena, notes, lookups, imps)
             .is_some()
     }
 }

@@ -19,11 +19,11 @@ use crate::sender::HostedSender;
 use msg_reader::Notes;
 
 impl HostedSender {
-    /// The number of the implementation that the notes have, or else that the cache has, and then
-    /// the notes too: what a lookup finds at what the sender has then seen; or none. No lock is
-    /// wanted. Where a change that affects the class reference falls into a probe that hits, its
-    /// answer is left. What the notes have since the stamp of the class reference is found without
-    /// a probe.
+    /// Returns the number of the implementation from the notes, or else from the cache, which is
+    /// then noted; or nothing. A lookup finds it at what the sender has then seen. The call needs
+    /// no lock. If a change that affects the class reference falls into a probe that hits, the
+    /// result is dropped. What the notes have since the stamp of the class reference is found
+    /// without a probe.
     pub fn probe(
         &mut self,
         notes: &mut Notes,
@@ -48,15 +48,15 @@ impl HostedSender {
             IfNone found (MissesUnlessChanged self.old.arena (ref_of class meta) sel self.old.seen self.new.seen)) }
     {
         let (class, sel) = asked(self.class_count(), class, meta, sel)?;
-        match self.find(notes, class, sel) {
+        match self.try_find(notes, class, sel) {
             Some(imp) => Ok(Some(imp.number())),
             None => Ok(None),
         }
     }
 
-    /// The stamp of a class, or of its metaclass: no change after so many has affected it, so what
-    /// was noted of it after so many or more is what a lookup finds. The sender has then seen all
-    /// changes. No lock is wanted.
+    /// The stamp of a class, or of its metaclass: no change after that many has affected it. So a
+    /// lookup finds what was noted of it after at least that many changes. The sender has then seen
+    /// all changes. The call needs no lock.
     pub fn stamp(&mut self, class: u32, meta: bool) -> Result<u64, AskFault>
         ensures arena { self.new.arena ≡ self.old.arena }
         ensures begins { BeginsWith self.new.seen.front self.old.seen.front }
@@ -73,8 +73,8 @@ impl HostedSender {
 }
 
 impl HostedRuntime {
-    /// `lookUpImpOrForward`: the number of the implementation that a lookup finds; it is cached,
-    /// where there is room, and noted. The sender has then seen the whole history.
+    /// `lookUpImpOrForward`: the number of the implementation that a lookup finds. It is noted, and
+    /// cached if there is room. The sender has then seen the whole history.
     pub fn fill(
         &mut self,
         sender: &mut HostedSender,

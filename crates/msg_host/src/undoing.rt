@@ -45,7 +45,7 @@ impl ChangeRow {
         }
     }
 
-    // The row that means what takes an entry back.
+    // The row of the change that takes an entry back.
     fn undoing(entry: Entry) -> ChangeRow
         ensures { result ≡ spec.undoing entry }
     {
@@ -69,7 +69,7 @@ impl ChangeRow {
     }
 }
 
-// Writes what takes changes back, the last first.
+// Writes the changes that take changes back, the last first.
 fn write_way_back(entries: &[Entry], rows: &mut [ChangeRow])
     requires { length entries.now ≤ length rows.old }
     ensures meant { AreMeant (take (length entries.now) rows.new) (undo_journal entries.now) }
@@ -81,11 +81,11 @@ fn write_way_back(entries: &[Entry], rows: &mut [ChangeRow])
 }
 
 impl HostedRuntime {
-    /// Makes the changes of rows as one, as [`make_all`](HostedRuntime::make_all), and writes the
-    /// rows that take them back directly after it, which are made as one too; `undone` says how
-    /// many. Where `undo` has fewer places, 76 is answered and nothing done, and `undone` says how
-    /// many are wanted: one for each row of the tables that the list adds, rewrites or removes, and
-    /// for each class that it makes or disposes of.
+    /// Makes the changes of rows as one, like [`make_all`](HostedRuntime::make_all), and writes the
+    /// rows that take them back directly after it, which are made as one too. `undone` is their
+    /// number. If `undo` has fewer places, it returns 76 and does nothing, and `undone` is the
+    /// number that is needed. There is one row for each row of the tables that the list adds,
+    /// rewrites or removes, and for each class that it makes or disposes of.
     #[tactic(auto, using(crate::proofs::ListingLemmas::rows_undone))]
     pub fn make_all_with_undo(
         &mut self,

@@ -6,8 +6,8 @@ use Rattle.msg_names.specs.declared.value.ClassRef.{ClassRef}
 use Rattle.msg_tables.specs.After.{of_class, of_meta, rows_at}
 use Rattle.msg_tables.specs.History.{empty, lookup}
 use Rattle.msg_tables.specs.Opening as opening
-use Rattle.msg_tables.specs.Rows.{own, or_else}
-use Rattle.msg_tables.specs.RowList.{own_in}
+use Rattle.msg_tables.specs.Rows.{own}
+use Rattle.msg_rows.specs.RowList.{or_else, own_in}
 use Rattle.msg_tables.specs.Methods.{MethodsOf}
 use Rattle.msg_tables.proofs.HoldsLemmas.{meta-apart}
 use Rattle.msg_tables.proofs.LawLemmas.{found-list}

@@ -1,4 +1,4 @@
--- What stands in an expression is what stands in its form.
+-- What is in an expression is what is in its form.
 use Rattle.std.proofs.Common.{◌≡◌, ◌<◌, ℕ, List, [], ◌∷◌, ◌++◌, map, Bool, false, ◌||◌, refl, sym, ap, ◌∙◌, arith}
 use Rattle.std.specs.Prelude.{All, min, nat_le}
 use Rattle.std.specs.List.{list_any, flat_map}

@@ -4,7 +4,7 @@ use Rattle.std.proofs.lemmas.Option.{same_Some}
 use Rattle.msg_form.specs.Form.{Form}
 use Rattle.msg_form.specs.Faults.{Condition, conditions, first_of, fault_of, is_over_limit, has_duplicate_class, has_unknown_superclass, has_unknown_class, has_duplicate_object, has_unknown_object, has_duplicate_imp, has_unknown_imp, has_bad_selector, has_wrong_argument_count, has_wrong_argument_index, has_too_deep_body, has_class_cycle}
 
--- the conditions on which an image stands
+-- the conditions that an image needs
 pub record IsFaultless (f : Form) : Type 0 where
   pub limit : is_over_limit f ≡ false
   pub one_class : has_duplicate_class f ≡ false

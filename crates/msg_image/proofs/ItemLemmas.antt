@@ -105,7 +105,7 @@ module _ (f : Form) (g : IsFaultless f) where
       at_superclass None e = tt
       at_superclass (Some name) e = any_class_in f g name (neither (is_unknown (class_names f) name) false e).0
 
-  -- changes of which none has what an item doesn't have
+  -- changes none of which has what an item doesn't have
   changes_sound : (cs : List ChangeForm) → list_any (is_unknown (class_names f)) (flat_map change_classes cs) ≡ false → list_any (is_unknown (imp_names f)) (flat_map change_imps cs) ≡ false
       → list_any (λ (l : List PairForm). list_any (unlisted f g) l) (flat_map change_lists cs) ≡ false → list_any (unnamed f g) (flat_map change_texts cs) ≡ false → All (IsSoundChange (spec.image_of f)) (map (spec.change (numbers_of f)) cs)
   changes_sound cs in_classes in_imps in_lists in_names =

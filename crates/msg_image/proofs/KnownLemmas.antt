@@ -70,7 +70,7 @@ or-true : (b : Bool) → (b || true) ≡ true
 or-true true = refl
 or-true false = refl
 
--- a text is among texts in which it stands
+-- a text is among texts in which it is
 pub has_text : (s : Text) (xs ys : List Text) → is_among s (xs ++ (s ∷ ys)) ≡ true
 has_text s [] ys = rw ((bytes_eq-Decides s s).1 refl) refl
 has_text s (x ∷ xs) ys = rw (has_text s xs ys) (or-true (bytes_eq s x))
@@ -92,7 +92,7 @@ number_stays_on : (names texts : List Text) (t : Text) (n : ℕ) → number_of n
 number_stays_on names [] t n e = e
 number_stays_on names (s ∷ texts) t n e = number_stays_on (with_name names s) texts t n (number_stays names s t n e)
 
--- a name that stands among the first has the number that it has among them
+-- a name that is among the first has the number that it has among them
 pub number_of-first : (xs ys : List Text) (name : Text) (n : ℕ) → number_of (distinct xs) name ≡ Some n → number_of (distinct (xs ++ ys)) name ≡ Some n
 unfolding distinct
 number_of-first xs ys name n e = ap (λ names. number_of names name) (fold-append [] xs ys) ∙ number_stays_on (distinct xs) ys name n e

@@ -86,7 +86,7 @@ classes-listed image sound =
     let n = length-map image.classes (λ (c : ClassParts). c.superclass) in
     record { above = λ k d e. let inside = supers-listed image.classes (length image.classes) (λ j x few. (sound.classes j x few).superclass) k d e in omega (arith, inside, n) }
 
--- what stands above a listed class, by its superclass
+-- what is above a listed class, by its superclass
 pub depth-above : (image : ImageParts) (k : ℕ) → IsSound image → k < length image.classes → depth_in image k ≡ option_map_or (λ d. suc (depth_in image d)) (super_of (superclasses image) k) 0
 depth-above image k sound inside = at (super_of (superclasses image) k) refl
   where

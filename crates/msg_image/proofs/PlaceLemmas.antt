@@ -1,4 +1,4 @@
--- Where no name stands twice, a name's number is its place.
+-- If no name occurs twice, a name's number is its place.
 use Rattle.std.proofs.Common.{◌≡◌, ◌+◌, ◌-◌, ℕ, zero, suc, List, [], ◌∷◌, ◌++◌, map, length, zero-add, Bool, true, false, ◌||◌, cond, Option, Some, None, is_some, option_map, slice_get, bytes_eq, refl, sym, ap, ◌∙◌, subst, arith, append_assoc}
 use Rattle.std.specs.Prelude.{fold, filter, is_none, unwrap_or}
 use Rattle.std.proofs.lemmas.List.{append-nil, length-map}
@@ -24,12 +24,12 @@ distinct-on seen (t ∷ texts) e =
     let grown : with_name seen t ≡ seen ++ t ∷ [] = rw each.0 refl in
     distinct-on (with_name seen t) texts each.1 ∙ ap (λ n. n ++ texts) grown ∙ append_assoc seen (t ∷ []) texts
 
--- texts of which none stands twice are the different ones
+-- texts none of which occurs twice are the different ones
 pub distinct-same : (texts : List Text) → has_duplicate texts ≡ false → distinct texts ≡ texts
 unfolding distinct
 distinct-same texts e = distinct-on [] texts (repeats-none texts ∙ e)
 
--- one more name before those in which a name stands
+-- one more name before those in which a name is
 later : (x t : Text) (names : List Text) (place : ℕ) → is_among x names ≡ false → number_of names t ≡ Some (place + 1) → number_of (x ∷ names) t ≡ Some (suc place + 1)
 later x t names place absent rest = at_test (bytes_eq t x) refl
   where
@@ -39,7 +39,7 @@ later x t names place absent rest = at_test (bytes_eq t x) refl
         let clash : true ≡ false = sym there ∙ absent in cc
     at_test false e = rw rest (ap Some (omega arith))
 
--- a name that stands at a place has that place as its number, from 1
+-- a name that is at a place has that place as its number, from 1
 number-at : (names : List Text) (place : ℕ) (t : Text) → has_duplicate names ≡ false → slice_get names place ≡ Some t → number_of names t ≡ Some (place + 1)
 number-at [] place t none at = cc
 number-at (x ∷ names) zero t none at = let same : bytes_eq t x ≡ true = (bytes_eq-Decides t x).1 (sym (same_Some x t at)) in rw same refl

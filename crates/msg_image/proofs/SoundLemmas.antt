@@ -94,7 +94,7 @@ map-same : {A B : Type 0} (p q : A → B) (xs : List A) → ((i : ℕ) (x : A) �
 map-same p q [] same = refl
 map-same p q (x ∷ xs) same = λ i. same 0 x refl i ∷ map-same p q xs (λ k y at. same (suc k) y at) i
 
--- what stands at a place of those of a list
+-- what is at a place of those of a list
 mapped-at : {A : Type 0} {P : Type 0} (p : A → Option ℕ) (xs : List A) (k d : ℕ) → slice_index_or (map p xs) k None ≡ Some d → ((x : A) → slice_get xs k ≡ Some x → p x ≡ Some d → P) → P
 mapped-at p [] k d e then = cc
 mapped-at p (x ∷ xs) zero d e then = then x refl e

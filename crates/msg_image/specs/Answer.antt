@@ -16,7 +16,7 @@ abbrev pub IsJson : List ℕ → Option Data → Type 0
 IsJson bytes None = (d : Data) → IsUtf8 bytes → json.read bytes ≡ Some d → ⊥
 IsJson bytes (Some d) = IsUtf8 bytes × (json.read bytes ≡ Some d)
 
--- a fault says that the bytes are the text of no JSON value, unless memory was wanting
+-- a fault says that the bytes are the text of no JSON value, unless memory was lacking
 abbrev pub SaysNotJson : List ℕ → DocumentFault → Type 0
 SaysNotJson bytes e = e ≢ Memory → (e ≡ NotJson) × IsJson bytes None
 
@@ -30,7 +30,7 @@ abbrev pub judged : Option Form → Result DocumentParts DocumentFault
 judged None = Err Shape
 judged (Some f) = unless (fault_of f) f
 
--- a fault is the answer to a form, unless memory was wanting
+-- a fault is the answer to a form, unless memory was lacking
 abbrev pub IsFaultOf : Form → DocumentFault → Type 0
 IsFaultOf f e = e ≢ Memory → judged (Some f) ≡ Err e
 

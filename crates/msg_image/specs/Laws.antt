@@ -10,7 +10,7 @@ use Rattle.msg_image.specs.Sound.{IsSound}
 use Rattle.msg_names.specs.Number.{imp_number}
 use Rattle.msg_tables.specs.After.{of_class, of_meta}
 use Rattle.msg_tables.specs.History.{empty, lookup}
-use Rattle.msg_tables.specs.RowList.{own_in}
+use Rattle.msg_rows.specs.RowList.{own_in}
 use Rattle.msg_tables.specs.declared.origin.Category.{Category}
 
 -- a listed class is numbered as it is listed, from 0

@@ -1,4 +1,4 @@
--- The numbers that a document's names get, and what the names stand for.
+-- The numbers that a document's names get, and what the names represent.
 use Rattle.std.specs.Prelude.{ℕ, ◌-◌, List, unwrap_or}
 use Rattle.msg_names.specs.Number.{selector_of, imp_ref_of}
 use Rattle.msg_names.specs.Numbering.{number_of}
@@ -34,7 +34,7 @@ numbers_of f = record {
 abbrev pub numbers_by : FormNames → Numbers
 numbers_by n = record { selectors = n.selectors; classes = n.classes; objects = n.objects; imps = n.imps }
 
--- A name that is none of the names would stand for the first, or for forwarding; a document without
+-- A name that is none of the names would represent the first, or forwarding; a document without
 -- fault has no such name.
 unfoldable pub selector_named : Numbers → Text → Selector
 selector_named n text = selector_of (unwrap_or (number_of n.selectors text) 1)

@@ -47,7 +47,7 @@ pub record ObjectParts : Type 0 where
   pub name : List ℕ
   pub class : ℕ
 
--- an implementation, with the class reference in whose source it stands
+-- an implementation, with the class reference in whose source it is
 pub record ImpParts : Type 0 where
   pub home : ClassRef
   pub args : ℕ
@@ -89,15 +89,15 @@ superclass_in image c = of_listed (slice_get image.classes c.class)
 abbrev pub superclasses : ImageParts → List (Option ℕ)
 superclasses image = map (λ (c : ClassParts). c.superclass) image.classes
 
--- how many superclasses stand above a listed class
+-- how many superclasses are above a listed class
 abbrev pub depth_in : ImageParts → ℕ → ℕ
 depth_in image k = depth_of (superclasses image) k
 
--- one more than so many stand above a superclass, and none where there is no superclass
+-- one more than so many are above a superclass, and none if there is no superclass
 abbrev pub one_deeper : ImageParts → Option ℕ → ℕ
 one_deeper image superclass = option_map_or (λ d. suc (depth_in image d)) superclass 0
 
--- the object of a number, where there is one
+-- the object of a number, if there is one
 abbrev pub object_at : ImageParts → ObjectRef → Option ObjectParts
 object_at image o = slice_get image.objects o.object
 

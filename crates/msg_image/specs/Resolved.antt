@@ -1,4 +1,4 @@
--- What the parts of a form stand for, by the form's names.
+-- What the parts of a form represent, by the form's names.
 use Rattle.std.specs.Prelude.{List, map}
 use Rattle.msg_form.specs.ExprView.{expr_view, exprs_view}
 use Rattle.msg_form.specs.Views.{category_view, class_view, imp_view, object_view}

@@ -80,8 +80,8 @@ pub record IsSoundCategory (image : ImageParts) (c : Category) : Type 0 where
   pub methods : AreListed image c.methods
   pub class_methods : AreListed image c.class_methods
 
--- an implementation stands in a listed class, and its body reads its own arguments and names what
--- the image has
+-- an implementation is in a listed class, and its body reads its own arguments and names what the
+-- image has
 pub record IsSoundImp (image : ImageParts) (i : ImpParts) : Type 0 where
   pub home : i.home.class < length image.classes
   pub args : i.args ≤ 4
@@ -89,7 +89,7 @@ pub record IsSoundImp (image : ImageParts) (i : ImpParts) : Type 0 where
   pub selectors : All (HasSelector image) (selectors_in i.body)
   -- each argument that the body reads is one of those that the implementation takes
   pub arguments : All (λ k. k < i.args) (arguments_in i.body)
-  -- where the body has a super send there is a class above the home class
+  -- if the body has a super send, there is a class above the home class
   pub above : has_super_send i.body ≡ true → IsSome (superclass_in image i.home)
   pub count : count i.body ≤ MAX_EXPRESSIONS
   pub depth : depth i.body ≤ MAX_DEPTH
@@ -110,7 +110,7 @@ pub record IsSound (image : ImageParts) : Type 0 where
   pub few_imps : length image.imps ≤ MAX_IMPS
   pub few_rows : row_count image ≤ MAX_ENTRIES
 
--- the image has the selector, and that takes so many arguments
+-- the image has the selector, and that takes this number of arguments
 abbrev pub Takes : ImageParts → Selector → ℕ → Type 0
 Takes image s n = option_map colons_of (name_at image.names (selector_number s)) ≡ Some n
 

@@ -13,6 +13,6 @@ pub enum Item {
         args: ArrayVec<Value, 4>,
     },
     Change(Change),
-    /// Changes that are made as one.
+    /// Changes that are made as one change.
     ChangeAll(Vec<Change>),
 }

@@ -23,20 +23,20 @@ use std::alloc::{AllocError, Global};
 /// The longest document, in bytes.
 pub const MOST_BYTES: usize = 16_777_216;
 
-// So many bytes for each of a text hold the trees of most texts.
+// This number of bytes for each byte of a text holds the tree of most texts.
 const TREE_BYTES: usize = 4;
 
-// The first piece of a tree's arena has no more bytes. A second one has twice as many.
+// The most bytes of the first piece of a tree's arena. A second piece has twice as many.
 const PIECE_BYTES: usize = 15_728_640;
 
-// More than the second piece has, and no more than 32 MiB: the largest block of which glibc learns
-// by its being freed.
+// More than the second piece has, and no more than 32 MiB. That is the largest block that glibc
+// keeps for reuse after it was freed once.
 const FREED_BYTES: usize = 32_505_856;
 
-// A text of so many bytes is long.
+// A text with at least this number of bytes is long.
 const LONG_BYTES: usize = 65_536;
 
-/// An image, and what is to be sent and changed.
+/// An image, and the items that send to it and change it.
 #[derive(Drop)]
 pub struct Document {
     pub image: Image,
@@ -59,7 +59,7 @@ fn parsed<'t, 'b>(
     }
 }
 
-// The document of a form without fault.
+// Makes the document of a form without fault.
 fn numbered(alloc: Global, form: &Form, names: &FormNames) -> Result<Document, AllocError>
     requires fault { fault_of (form_view form.now) ≡ None }
     requires names { AreNamesOf names.now (form_view form.now) }
@@ -72,7 +72,7 @@ fn numbered(alloc: Global, form: &Form, names: &FormNames) -> Result<Document, A
     Ok(Document { image, items })
 }
 
-// The document of a form, or the form's least fault, by the form's names.
+// Makes the document of a form, or returns the form's least fault, by the form's names.
 fn by_names(alloc: Global, form: &Form, names: &FormNames) -> Result<Document, DocumentFault>
     requires { AreNamesOf names.now (form_view form.now) }
     ensures ok { IfOk result (λ d. judged (Some (form_view form.now)) ≡ Ok (document_parts d)) }
@@ -86,11 +86,11 @@ fn by_names(alloc: Global, form: &Form, names: &FormNames) -> Result<Document, D
     }
 }
 
-/// Judges a form, whoever made it: the document that it is, or its least fault, as
-/// [`read_document`] answers for a text that spells it.
+/// Judges a form, whoever made it. Returns its document or its least fault, as [`read_document`]
+/// does for a text that spells it.
 ///
-/// Takes time and memory in the order of the form. `Memory` may be answered wherever a growth is
-/// refused; every other fault says of the form what its name says.
+/// It takes time and memory in proportion to the form. `Memory` may be returned if an allocation is
+/// refused. Every other fault says of the form what its name says.
 pub fn judge_form(alloc: Global, form: &Form) -> Result<Document, DocumentFault>
     ensures ok { IfOk result (λ d. judged (Some (form_view form.now)) ≡ Ok (document_parts d)) }
     ensures err { IfErr result (IsFaultOf (form_view form.now)) }
@@ -103,12 +103,12 @@ pub fn judge_form(alloc: Global, form: &Form) -> Result<Document, DocumentFault>
     document
 }
 
-// Room for the tree of most texts, taken at once. Where so much can't be had, the arena begins
+// Allocates room for the tree of most texts at once. If there isn't enough memory, the arena begins
 // small.
 //
-// glibc gives a large block that is freed back to the system, unless one as large was freed before.
-// So for a long text one is freed first, in which nothing was written: then the image comes to lie
-// where the tree lay, and the system needn't clear pages for it.
+// glibc returns a large block to the system when it is freed, unless one as large was freed before.
+// So for a long text one is first allocated and freed without writing to it. The image then comes
+// to lie where the tree was, and the system doesn't have to clear pages for it.
 fn arena(alloc: Global, bytes: &[u8]) -> Bump {
     if bytes.len() >= LONG_BYTES {
         drop(Bump::try_with_capacity(alloc, FREED_BYTES));
@@ -120,8 +120,8 @@ fn arena(alloc: Global, bytes: &[u8]) -> Bump {
     }
 }
 
-// The form that a text spells, with its expressions in the arena. Its tree lies in an arena of its
-// own, and neither is kept beside what is made of the form.
+// Reads the form that a text spells, with its expressions in the arena. Its tree lies in an arena
+// of its own. Neither is kept along with what is made from the form.
 fn spelled<'t>(
     alloc: Global,
     bump: &'t Bump,
@@ -139,8 +139,8 @@ fn spelled<'t>(
 /// Reads a document: the image and the items that the bytes spell, or the first fault in the order
 /// of [`DocumentFault`].
 ///
-/// Takes time and memory in the order of the bytes. A text that is too long isn't looked at.
-/// `Memory` may be answered wherever a growth is refused; every other fault says of the bytes what
+/// It takes time and memory in proportion to the bytes. A text that is too long isn't looked at.
+/// `Memory` may be returned if an allocation is refused. Every other fault says of the bytes what
 /// its name says.
 pub fn read_document(alloc: Global, bytes: &[u8]) -> Result<Document, DocumentFault>
     ensures ok { IfOk result (λ d. IsAnswer bytes.now (Ok (document_parts d))) }
@@ -157,7 +157,7 @@ pub fn read_document(alloc: Global, bytes: &[u8]) -> Result<Document, DocumentFa
     judge_form(alloc, &form)
 }
 
-/// Bytes have one answer.
+/// The same bytes always have the same result.
 #[tactic(auto, using(crate::proofs::AnswerLemmas::one))]
 pub fn one_answer()
     ensures { BytesHaveOneAnswer }

@@ -15,7 +15,7 @@ pub enum Expr {
     Mul(Box<Expr>, Box<Expr>),
     Eq(Box<Expr>, Box<Expr>),
     Lt(Box<Expr>, Box<Expr>),
-    /// The condition, what it is where that is neither nil nor 0, and what it is else.
+    /// The condition, the value if that is neither nil nor 0, and the value otherwise.
     If(Box<Expr>, Box<Expr>, Box<Expr>),
     /// The receiver, the selector and the arguments.
     Send(Box<Expr>, Selector, Vec<Expr>),

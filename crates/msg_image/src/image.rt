@@ -26,10 +26,10 @@ use std::marker::Model;
 /// An implementation.
 #[derive(Drop)]
 pub struct Imp {
-    /// The class in whose source the implementation stands, or its metaclass. A super send looks up
-    /// above it.
+    /// The class in whose source the implementation is, or its metaclass. The lookup of a super
+    /// send begins above it.
     pub home: ClassRef,
-    /// How many arguments it takes.
+    /// The number of arguments that it takes.
     pub args: u8,
     pub body: Expr,
 }
@@ -40,10 +40,10 @@ pub(crate) struct Object {
     pub(crate) class: u32,
 }
 
-/// What a document says of classes, categories, objects and implementations.
+/// What a document says about classes, categories, objects and implementations.
 ///
-/// Contracts see the parts without their pointers. The reading calls take no memory, and each
-/// indexes once.
+/// Contracts see the parts without their pointers. The calls that read take no memory, and each of
+/// them indexes once.
 #[derive(Drop)]
 pub struct Image {
     names: Names,
@@ -53,7 +53,8 @@ pub struct Image {
     made: Vec<String>,
     objects: Vec<Object>,
     imps: Vec<Imp>,
-    // What tables are opened of. The superclasses, method lists and categories stand here alone.
+    // The origin from which tables are opened. Only it has the superclasses, method lists and
+    // categories.
     origin: Origin,
 }
 
@@ -100,8 +101,8 @@ fn superclass_count(origin: &Origin, class: u32) -> u32
     depth
 }
 
-// The classes of an image: a part of it that is made by itself, as is what stands for the rest,
-// since where memory is wanted each function gives back what it has made.
+// The classes of an image. They are made on their own, as is what represents the rest, because a
+// function that lacks memory gives back what it has made.
 #[derive(Drop)]
 struct Classes {
     names: Vec<String>,
@@ -149,7 +150,7 @@ fn members_of(alloc: Global, form: &Form, names: &FormNames) -> Result<Members, 
 }
 
 impl Image {
-    // The image of a form without fault.
+    // Makes the image of a form without fault.
     pub(crate) fn of(alloc: Global, form: &Form, names: &FormNames) -> Result<Image, AllocError>
         requires fault { fault_of (form_view form.now) ≡ None }
         requires names { AreNamesOf names.now (form_view form.now) }
@@ -172,14 +173,14 @@ impl Image {
         })
     }
 
-    ghost use Rattle.msg_tables.specs.Methods.{method_numbers};
+    ghost use Rattle.msg_rows.specs.Methods.{method_numbers};
     ghost use Rattle.msg_image.specs.Parts.{class_total, class_names, depth_in, forwarding_selector, methods_in};
     ghost use Rattle.msg_image.specs.Parts.{object_at, one_deeper, superclass_in, superclasses};
     ghost use Rattle.msg_form.specs.Walk.{forwarding_text};
     ghost use Rattle.msg_image.specs.Plain.{plain, imp_parts};
     ghost use Rattle.msg_image.specs.Sound.{IsSound, IsSoundCategory, IsSoundImp, AreListed};
 
-    /// The selectors' names. The first is `forwardingTargetForSelector:`.
+    /// The names of selectors. The first is `forwardingTargetForSelector:`.
     pub fn names(&self) -> &Names
         ensures names { result.now ≡ self.now.names }
         ensures forwarding { name_of self.now.names forwarding_selector ≡ Some forwarding_text }
@@ -187,7 +188,7 @@ impl Image {
         &self.names
     }
 
-    /// How many classes have numbers: the listed ones, and after them those that may be made.
+    /// The number of classes with numbers: the listed ones, and after them those that may be made.
     pub fn class_count(&self) -> u32
         ensures count { result ≡ class_total self.now }
         ensures sound { IsSound self.now }
@@ -195,7 +196,7 @@ impl Image {
         (self.listed.len() + self.made.len()) as u32
     }
 
-    /// How many classes are listed.
+    /// The number of listed classes.
     pub fn listed_count(&self) -> u32
         ensures count { result ≡ length self.now.classes }
         ensures sound { IsSound self.now }
@@ -227,8 +228,8 @@ impl Image {
         }
     }
 
-    /// The superclass, or for a metaclass the superclass's metaclass, and for a root metaclass the
-    /// root class itself.
+    /// The superclass. For a metaclass that is the superclass's metaclass, and for a root metaclass
+    /// the root class itself.
     pub fn superclass(&self, class: ClassRef) -> Option<ClassRef>
         requires { class.class < length self.now.classes }
         ensures value { result ≡ superclass_in self.now class }
@@ -237,10 +238,10 @@ impl Image {
         class.above(self.origin.superclass(class.class))
     }
 
-    /// How many superclasses stand above a listed class: none above a root class, and else one more
-    /// than above its superclass.
+    /// The number of superclasses above a listed class: none for a root class, and otherwise one
+    /// more than above its superclass.
     ///
-    /// Takes time in the order of what it answers.
+    /// It takes time in proportion to the result.
     pub fn depth(&self, class: u32) -> u32
         requires { class < length self.now.classes }
         ensures depth { result ≡ depth_in self.now class }

@@ -1,4 +1,5 @@
-//! Images: what a document says of classes, categories, objects, implementations and their bodies.
+//! Images: what a document says about classes, categories, objects, implementations and their
+//! bodies.
 #![tactic(auto)]
 
 mod change;

@@ -16,8 +16,8 @@ pub(crate) fn forwarding_selector() -> Selector
     Selector::of(1).unwrap()
 }
 
-// The names of selectors, numbered. They are copied, since they stay; those of a form without fault
-// are few enough, and good.
+// The numbered names of selectors. They are copied because they outlive the text. A form without
+// fault has few enough of them, and all are valid.
 pub(crate) fn selector_names(alloc: Global, texts: &[&str]) -> Result<Names, AllocError>
     ensures { IfOk result (λ names. names ≡ distinct (texts_view texts.now)) }
 {

@@ -1,4 +1,4 @@
-//! What tables of an image are opened of.
+//! The origin of an image's tables.
 
 ghost use Rattle.std.specs.Prelude.{◌≡◌, ◌<◌, Some, IfOk, length, map, option_map, slice_get};
 ghost use Rattle.msg_names.specs.Name.{colons_of};
@@ -11,19 +11,19 @@ use msg_names::{Names, Selector};
 use msg_tables::{Counts, Limits};
 use std::alloc::{AllocError, Global};
 
-/// How many rows may stand at any time in the tables of a document: as many as it may list.
+/// The most rows that the tables of a document may have at any time: as many as it may list.
 pub const MAX_ROWS: u64 = MAX_ENTRIES as u64;
 
-/// How many changes of a document's tables are accepted.
+/// The number of changes of a document's tables that are accepted.
 pub const MAX_CHANGES: u64 = 65_536;
 
-/// How many senders there may be beside a document's changes.
+/// The most senders that may run concurrently with a document's changes.
 pub const MAX_SENDERS: u32 = 64;
 
-/// How many words the caches of a document's classes may use.
+/// The most words that the caches of a document's classes may use.
 pub const MAX_WORDS: u32 = 1_048_576;
 
-// How many arguments a selector takes.
+// The number of arguments that a selector takes.
 fn colons_at(names: &Names, index: usize) -> u8
     requires inside { index < length names.now }
     requires names { AreNames names.now }
@@ -54,7 +54,7 @@ fn argument_counts(alloc: Global, imps: &[Imp]) -> Result<Vec<u8>, AllocError>
     Ok(args)
 }
 
-// How many arguments selectors and implementations take.
+// The numbers of arguments that selectors and implementations take.
 pub(crate) fn counts(alloc: Global, names: &Names, imps: &[Imp]) -> Result<Counts, AllocError>
     ensures colons { IfOk result (λ counts. counts.colons ≡ map colons_of names.now) }
     ensures args { IfOk result (λ counts. counts.args ≡ map (λ (m : Imp). m.args) imps.now) }
@@ -64,7 +64,7 @@ pub(crate) fn counts(alloc: Global, names: &Names, imps: &[Imp]) -> Result<Count
     Ok(Counts::new(colons, args))
 }
 
-// A document's.
+// The limits of a document.
 pub(crate) fn limits() -> Limits
     ensures { result ≡ record { rows = MAX_ROWS; changes = MAX_CHANGES; senders = MAX_SENDERS; words = MAX_WORDS } }
 {

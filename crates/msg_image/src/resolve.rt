@@ -1,4 +1,5 @@
-//! The document that a form spells: numbers for names. Each place of a name is hashed once.
+//! Makes the document that a form spells, with numbers for names. Each place of a name is hashed
+//! once.
 
 ghost use Rattle.std.specs.Prelude.{◌≡◌, ℕ, List, Ok, IfOk, map, take, option_map, string_bytes};
 ghost use Rattle.msg_form.specs.ExprView.{constant_view};
@@ -24,14 +25,14 @@ use msg_names::{ClassRef, Value};
 use msg_tables::{Category, Change, ListedClass, MethodList};
 use std::alloc::{AllocError, Global};
 
-/// A part of a document, of which the form has the names.
+/// A part of a document that is made from the names of a form.
 trait Resolve<F>: Sized + Drop {
-    // The same without pointers.
+    // The part without pointers.
     ghost Plain: { Type 0 };
 
     ghost parts: { Self → Plain };
 
-    // What a part of a form stands for.
+    // The part that a part of a form represents.
     ghost meaning: { Numbers → F → Plain };
 
     fn resolve(alloc: Global, names: &FormNames, form: &F) -> Result<Self, AllocError>
@@ -52,8 +53,8 @@ pub(crate) fn each<F, T: Resolve<F>>(
     Ok(found)
 }
 
-// Two values that were made, or the refusal of one. What was made beside one that was refused is
-// dropped here, for all types at once.
+// Two values that were made, or the refusal of one. A value that was made along with one that was
+// refused is dropped here, for all types at once.
 pub(crate) fn both<A: Drop, B: Drop>(
     first: Result<A, AllocError>,
     second: Result<B, AllocError>,
@@ -100,7 +101,7 @@ fn expr(alloc: Global, names: &FormNames, form: &form::Expr) -> Result<Expr, All
     Ok(Box::into_inner(boxed_expr(alloc, names, form)?))
 }
 
-// Each expression is written where it is to stand.
+// Each expression is written at its final place.
 #[cycle(expr)]
 fn boxed_expr(alloc: Global, names: &FormNames, form: &form::Expr) -> Result<Box<Expr>, AllocError>
     ensures { IfOk result (λ b. plain b.value ≡ expression_by names.now form.now) }
@@ -366,7 +367,7 @@ impl<'v> Resolve<form::Change<'v>> for Change {
     }
 }
 
-// The arguments of a send, which are four at most.
+// The arguments of a send, of which there are at most four.
 fn arguments(names: &FormNames, forms: &[Constant]) -> ArrayVec<Value, 4>
     ensures { result.items ≡ map (spec.constant (numbers_by names.now)) (take 4 (map constant_view forms.now)) }
 {

@@ -7,18 +7,18 @@ use Rattle.msg_io.specs.declared.admission.TheConstants.{MAX_WORKERS}
 use Rattle.msg_io.specs.declared.fault.RunFault.{RunFault}
 use Rattle.msg_io.specs.declared.fault.RunFault.TheVariants.{Document}
 
--- no run has so many workers
+-- no run has this number of workers
 abbrev pub AreNoWorkers : ℕ → Type 0
 AreNoWorkers workers = (workers ≡ 0) ⊎ (MAX_WORKERS < workers)
 
--- a run may have so many workers, and none has this cut
+-- a run may have this number of workers, and none has this cut
 abbrev pub IsNoCut : ℕ → ℕ → Type 0
 IsNoCut workers cut = (cut ≡ 0) × (0 < workers) × (workers ≤ MAX_WORKERS)
 
--- the bytes that a source has, where they are known, spell this document
+-- the bytes that a source has, if they are known, spell this document
 abbrev pub IsDocumentOf : Option (List ℕ) → DocumentParts → Type 0
 IsDocumentOf known d = IfSome known (λ bytes. IsAnswer bytes (Ok d))
 
--- a fault that is told of a document is the one that those bytes have
+-- a fault that is reported of a document is one that those bytes have
 abbrev pub TellsFaultOf : {A : Type 0} → Option (List ℕ) → Result A RunFault → Type 0
 TellsFaultOf known r = (f : DocumentFault) → r ≡ Err (Document f) → IfSome known (λ bytes. IsAnswer bytes (Err f))

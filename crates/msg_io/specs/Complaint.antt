@@ -19,7 +19,7 @@ program_name Msgbeside = codes "msgbeside"
 abbrev pub usage_line : Program → List ℕ
 usage_line p = codes "usage: " ++ program_name p ++ codes " [workers [cut]]\n"
 
--- want of memory, which is no fault of the document
+-- lack of memory, which is no fault of the document
 abbrev pub wants_memory : DocumentFault → Bool
 wants_memory documents.Memory = true
 wants_memory f = false
@@ -40,7 +40,7 @@ run_fault_line faults.Write = codes "write failed\n"
 run_fault_line faults.Workers = codes "workers must be 1 to 64\n"
 run_fault_line faults.Cut = codes "cut must be at least 1\n"
 
--- what is said, where no fault stands for wrong use
+-- what is said, if no fault means wrong use
 abbrev pub said_line : Program → Option RunFault → List ℕ
 said_line p None = usage_line p
 said_line p (Some f) = run_fault_line f

@@ -1,4 +1,4 @@
--- What reading a source to its end, or a document from it, does and answers.
+-- What reading a source to its end, or a document from it, does and returns.
 use Rattle.std.specs.Prelude.{◌≡◌, ℕ, ◌+◌, ◌<◌, ◌≤◌, Bool, List, length, Option, Result, Ok, Err, All, IsTrue}
 use Rattle.std.specs.Io.KnownBytes.{Consumes}
 use Rattle.msg_image.specs.Answer.{most_bytes}

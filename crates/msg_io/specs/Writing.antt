@@ -11,10 +11,10 @@ Gains old new bytes = new.items ≡ old.items ++ bytes
 abbrev pub AppendsStart : Option (List ℕ) → Option (List ℕ) → List ℕ → Type 0
 AppendsStart old new bytes = (count : ℕ) × (count < length bytes) × Appends old new (take count bytes)
 
--- what a sink holds, where it is known, grew by these bytes
+-- what a sink holds, if it is known, grew by these bytes
 abbrev pub Writes : {S : Type 0} → (S → Option (List ℕ)) → S → S → List ℕ → Type 0
 Writes contents old new bytes = Appends (contents old) (contents new) bytes
 
--- and by the start of them alone, where a write failed
+-- and only by the start of them if a write failed
 abbrev pub Starts : {S : Type 0} → (S → Option (List ℕ)) → S → S → List ℕ → Type 0
 Starts contents old new bytes = AppendsStart (contents old) (contents new) bytes

@@ -1,4 +1,4 @@
-//! Whether there can be a run, and of which document; and the text that it writes.
+//! Whether a run is possible, and for which document; and the text that it writes.
 
 ghost use Rattle.std.specs.Prelude.{◌≡◌, ◌≢◌, ◌≤◌, ◌↔◌, ◌⊎◌, length, true, false};
 ghost use Rattle.std.specs.Prelude.{Err, IfOk, IfErr, OnErr, OnOk};
@@ -19,7 +19,8 @@ use std::alloc::Global;
 /// The most workers of a run.
 pub const MAX_WORKERS: u32 = 64;
 
-// The document that a source gives. The bytes and the JSON value are dropped when it is there.
+// Reads the document of a source. The bytes and the JSON value are dropped when the document is
+// made.
 fn document<R: Source>(alloc: Global, source: &mut R) -> Result<Document, RunFault>
     requires { R.mark source.old ≡ false }
     ensures ok { IfOk result (λ d. IsDocumentOf (R.remaining source.old) (document_parts d)) }
@@ -38,7 +39,7 @@ fn document<R: Source>(alloc: Global, source: &mut R) -> Result<Document, RunFau
     Ok(read_document(alloc, &bytes)?)
 }
 
-// Whether there can be a run with so many workers and this cut.
+// Whether a run with this number of workers and this cut is possible.
 fn judge(workers: u32, cut: u32) -> Result<(), RunFault>
     ensures some_workers { OnOk result (1 ≤ workers) }
     ensures some_places { OnOk result (1 ≤ cut) }
@@ -55,9 +56,9 @@ fn judge(workers: u32, cut: u32) -> Result<(), RunFault>
     Ok(())
 }
 
-/// The document of a run by so many workers and with this cut, if there can be one. The source is
-/// then read to its end; where there is none because the text is too long, past the limit by one
-/// buffer at most.
+/// Returns the document of a run with this number of workers and this cut, if such a run is
+/// possible. The source is then read to its end. If the text is too long, at most one buffer past
+/// the limit is read.
 #[tactic(auto, using(crate::proofs::ByteLemmas::gives_nothing))]
 pub fn admit<R: Source>(
     alloc: Global,

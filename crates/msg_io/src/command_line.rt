@@ -11,10 +11,11 @@ use std::alloc::{Alloc, Global};
 use std::env::{self, Env};
 use std::io::ErrorKind;
 
-/// The words after the program's name. A fault is want of memory; where there is none in the error,
-/// a word isn't text, which is wrong use.
+/// Returns the words after the program's name. A fault is a lack of memory. An error without a
+/// fault means that a word isn't text, which is wrong use.
 ///
-/// No clause says what the words are, since none of the kit says what a program is started with.
+/// No clause says what the words are, because no clause of the kit says what a program is started
+/// with.
 pub fn words<R: Env + Alloc<A = Global>>(rt: &R) -> Result<Vec<String>, Option<RunFault>>
     ensures { IfErr result (λ fault. IfSome fault (λ f. f ≡ Memory)) }
 {
@@ -32,8 +33,8 @@ pub fn words<R: Env + Alloc<A = Global>>(rt: &R) -> Result<Vec<String>, Option<R
     Ok(words)
 }
 
-/// The workers and the cut that the words after the program's name ask for, 1 and 64 where they
-/// name none. `None` is wrong use.
+/// Returns the workers and the cut that the words after the program's name ask for, or 1 and 64 if
+/// they name none. `None` means wrong use.
 pub fn arguments(words: &[String]) -> Option<(u32, u32)>
     ensures { result ≡ spec.arguments_of (map string_bytes words.now) }
 {
@@ -57,7 +58,7 @@ fn number(word: &str) -> Option<u32>
     }
 }
 
-// Nine digits always fit. The test comes before `parse`, which would take a sign.
+// Nine digits always fit. The test comes before `parse`, which would accept a sign.
 #[tactic(auto, unfolding(crate::specs::CommandLine::is_number))]
 fn is_number(word: &[u8]) -> bool
     ensures { result ≡ spec.is_number word.now }

@@ -1,4 +1,4 @@
-//! What is said of a fault.
+//! The lines that report faults.
 
 ghost use Rattle.std.specs.Prelude.{◌≡◌, ◌⊎◌, ◌++◌, codes, false, OnOk, OnErr};
 ghost use Rattle.std.specs.Option.{option_copied};
@@ -14,7 +14,7 @@ use crate::fault::RunFault;
 use crate::writing::{write_both, write_whole};
 use msg_image::DocumentFault;
 
-/// Who says it.
+/// The program that reports.
 #[derive(Clone, Copy, Debug, PartialEq, Eq)]
 pub enum Program {
     /// The program over `run`.
@@ -24,7 +24,7 @@ pub enum Program {
 }
 
 impl Program {
-    // What stands before each line.
+    // The beginning of each line.
     fn prefix(self) -> &'static str
         ensures { result.now ≡ spec.program_name self ++ codes ": " }
     {
@@ -50,7 +50,7 @@ fn wants_memory(fault: DocumentFault) -> bool
     matches!(fault, DocumentFault::Memory)
 }
 
-// Writes what is said of a document's fault: its number and its text.
+// Writes a document's fault: its number and its text.
 fn say_fault<W: Sink>(sink: &mut W, fault: DocumentFault) -> Result<(), Failed>
     ensures whole { OnOk result (Writes W.contents sink.old sink.new (fault_line fault)) }
     ensures start { OnErr result (Starts W.contents sink.old sink.new (fault_line fault)) }
@@ -118,10 +118,10 @@ fn status(fault: Option<&RunFault>) -> u8
     }
 }
 
-/// Writes one line that says why a run of the program ended, or how it is used where there is no
-/// fault, and answers the exit status.
+/// Writes one line that says why a run of the program ended, or how the program is used if there is
+/// no fault. Returns the exit status.
 ///
-/// It takes no memory. A failed write ends the line and leaves the status.
+/// It takes no memory. A failed write ends the line, and the status stays the same.
 pub fn complain<W: Sink>(sink: &mut W, program: Program, fault: Option<&RunFault>) -> u8
     ensures status { result ≡ spec.status_of (option_copied fault.entry) }
     ensures few { (result ≡ 1) ⊎ (result ≡ 2) }

@@ -1,8 +1,8 @@
-//! What a run reads from and writes to.
+//! The devices that a run reads from and writes to.
 //!
-//! A device tells contracts the bytes that it has left or holds, where they are known, as std's
-//! `Read` and `Write` do, and a mark: whether a call of it has failed. Each implementation is
-//! proved to keep these clauses, so none can claim to have moved more bytes than the buffer has.
+//! Contracts see the bytes that a device has left or holds, if they are known, as for std's `Read`
+//! and `Write`. They also see a mark that says whether a call of it has failed. Each implementation
+//! is proved to keep these clauses, so none can claim to have moved more bytes than the buffer has.
 
 ghost use Rattle.std.specs.Prelude.{ℕ, Bool, List, Option, None};
 ghost use Rattle.std.specs.Io.{ReadsAtMost, WritesAtMost};
@@ -11,36 +11,37 @@ ghost use Rattle.msg_io.specs.Device.{Marks, TakesSome};
 
 use thiserror::Error;
 
-/// A call of a device failed, for whatever reason: want of memory of the device's own is one.
+/// A call of a device failed, for any reason. A lack of memory of the device's own is one.
 #[derive(Clone, Copy, Debug, Default, PartialEq, Eq, Error)]
 #[error("the device failed")]
 pub struct Failed;
 
-/// What bytes are read from.
+/// A source of bytes.
 pub trait Source {
-    // The bytes that reads will give from here on, where they are known.
+    // The bytes that reads will give from here on, if they are known.
     ghost remaining: { Self → Option (List ℕ) } = { λ _. None };
 
     // Whether a read has failed.
     ghost mark: { Self → Bool };
 
-    /// Reads bytes into the start of `buf`, and answers how many: none only at the end, or where
-    /// `buf` is empty.
+    /// Reads bytes into the start of `buf`, and returns their number. It is 0 only at the end, or
+    /// if `buf` is empty.
     fn read(&mut self, buf: &mut [u8]) -> Result<usize, Failed>
         ensures bound { ReadsAtMost result buf.new }
         ensures bytes { ReadConsumes (remaining self.old) (remaining self.new) result buf.new }
         ensures marks { Marks (mark self.old) (mark self.new) result };
 }
 
-/// What bytes are written to.
+/// A sink of bytes.
 pub trait Sink {
-    // The bytes that the sink holds, where they are known.
+    // The bytes that the sink holds, if they are known.
     ghost contents: { Self → Option (List ℕ) } = { λ _. None };
 
     // Whether a write has failed.
     ghost mark: { Self → Bool };
 
-    /// Writes bytes from the start of `buf`, and answers how many: none only where `buf` is empty.
+    /// Writes bytes from the start of `buf`, and returns their number. It is 0 only if `buf` is
+    /// empty.
     fn write(&mut self, buf: &[u8]) -> Result<usize, Failed>
         ensures bound { WritesAtMost result buf.now }
         ensures some { TakesSome result buf.now }

@@ -9,23 +9,24 @@ use msg_image::DocumentFault;
 use std::alloc::AllocError;
 use thiserror::Error;
 
-/// Why a run wrote no answers, or not all of them. In order of time: `Workers`, `Cut`, `Read`,
-/// `Document`, `Write`; `Memory` may come between any two of them until the first byte is written.
+/// Why a run wrote no answers, or not all of them. In order of time the faults are `Workers`,
+/// `Cut`, `Read`, `Document` and `Write`. `Memory` may come between any two of them until the first
+/// byte is written.
 #[derive(Clone, Copy, Debug, PartialEq, Eq, Error)]
 pub enum RunFault {
-    /// A read failed. No kind of error is tried again.
+    /// A read failed. No read is tried again after an error of any kind.
     #[error("read failed")]
     Read,
-    /// What was read is no document. Want of memory is [`RunFault::Memory`].
+    /// What was read is no document. A lack of memory is [`RunFault::Memory`].
     #[error("document fault {}: {}", .0.number(), .0)]
     Document(DocumentFault),
-    /// A growth was refused.
+    /// An allocation was refused.
     #[error("out of memory")]
     Memory,
     /// A write failed. The start of the text was written.
     #[error("write failed")]
     Write,
-    /// There are to be no workers, or more than 64.
+    /// The number of workers is 0, or more than 64.
     #[error("workers must be 1 to 64")]
     Workers,
     /// A cut is 0.

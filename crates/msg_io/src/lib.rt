@@ -1,4 +1,4 @@
-//! What a run reads from and writes to, the words of its command line, and what is said of its end.
+//! What a run reads from and writes to, the words of its command line, and the report of its end.
 #![tactic(auto)]
 
 mod admission;

@@ -1,7 +1,7 @@
-//! Reading a source to its end.
+//! Reads a source to its end.
 //!
-//! Bytes go through one buffer of 8 KiB into a vector that doubles where it has to grow, so time
-//! and room are linear in what is read. Each turn takes at least one byte or is the last: a source
+//! Bytes go through one buffer of 8 KiB into a vector that doubles when it has to grow. So time and
+//! memory are linear in what is read. Each turn takes at least one byte or is the last. A source
 //! that fills the buffer is read to the limit in 2,049 turns.
 
 ghost use Rattle.std.specs.Prelude.{◌≡◌, IfOk, IfSome, IsErrOf, OnOk};
@@ -43,10 +43,10 @@ impl From<AllocError> for ReadFault {
     }
 }
 
-/// All that a source has to give, where that is at most [`MOST_BYTES`].
+/// Reads all that a source has to give, if that is at most [`MOST_BYTES`].
 ///
-/// Of a longer source, or one without an end, it reads past that limit by at most one buffer. The
-/// first read that fails ends it.
+/// Of a longer source, or one without an end, it reads past that limit by at most one buffer. It
+/// ends at the first read that fails.
 pub fn read_whole<S: Source>(alloc: Global, source: &mut S) -> Result<Vec<u8>, ReadFault>
     ensures all { IfOk result
         (λ bytes. IfSome (S.remaining source.old) (λ known. bytes.items ≡ known)) }

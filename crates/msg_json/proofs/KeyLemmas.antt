@@ -1,4 +1,4 @@
--- How many keys there are, where some come twice.
+-- The number of keys, if some come twice.
 use Rattle.std.proofs.Common.{◌≡◌, ℕ, suc, ◌+◌, ◌<◌, ◌≤◌, List, [], ◌∷◌, length, drop, take, get_or, Bool, true, false, ◌||◌, cond, Bor, Option, Some, None, is_some, Ordering, Less, Equal, Greater, nat_cmp, bytes_eq, ne_eqb, ◌==◌, drop-cons, add-one, refl, sym, ap, ◌∙◌, arith}
 use Rattle.std.proofs.lemmas.Cmp.{nat_list_cmp_total}
 use Rattle.std.proofs.lemmas.List.Folds.{list_any_more}
@@ -55,7 +55,7 @@ absent : (k : List ℕ) (ms : Members) → IsBelow k ms → get_member k ms ≡ 
 absent k no_members h = refl
 absent k (member l e ms) h = rw h.0 (absent k ms h.1)
 
--- how many there are after one is put
+-- the number of keys after one is put
 abbrev count_after : Bool → ℕ → ℕ
 count_after true n = n
 count_after false n = suc n
@@ -78,7 +78,7 @@ grows : (b : Bool) (n : ℕ) → n ≤ count_after b n
 grows true n = omega arith
 grows false n = omega arith
 
--- no member goes
+-- no member is lost
 pub with_members-grows : (ms : List (Bor (List ℕ) × Data)) (found : Members) → IsInOrder found → members_len found ≤ members_len (with_members found ms)
 with_members-grows [] found h = omega arith
 with_members-grows (m ∷ ms) found h =
@@ -92,7 +92,7 @@ with_members-grows (m ∷ ms) found h =
 abbrev pub among : List ℕ → List Entry → Bool
 among k ms = list_any (λ m. bytes_eq m.0.now k) ms
 
--- the members have n keys, which are those found
+-- the members have n keys, which are those that were found
 abbrev pub AreKeysOf : List Entry → ℕ → Members → Type 0
 AreKeysOf ms n found = IsInOrder found × (members_len found ≡ n) × ((k : List ℕ) → is_some (get_member k found) ≡ among k ms)
 
@@ -126,13 +126,13 @@ put_new ms i m n found lt at h new =
     let len = members_len-put m.0.now (view m.1) found h.0 ∙ ap (λ b. count_after b (members_len found)) (h.2 m.0.now ∙ new) ∙ ap suc h.1 ∙ sym (add-one n) in
     (IsInOrder-put m.0.now (view m.1) found h.0, len, answers ms i m n found lt at h)
 
--- one more than so many
+-- one more than a number
 pub too_many : (ms : List (Bor (List ℕ) × Data)) (n : ℕ) (found : Members) → IsInOrder found → members_len found ≡ n + 1 → (members_len (with_members found ms) == n) ≡ false
 too_many ms n found h len =
     let more = with_members-grows ms found h in
     ne_eqb _ n (λ e. omega (arith, more, len, e))
 
--- a turn of a loop over the members, in which one is put into those found
+-- a turn of a loop over the members, which puts one into those that were found
 pub turn : (ms : List Entry) (i : ℕ) (m : Entry) (found whole : Members) → i < length ms → m ≡ get_or ms i m
     → with_members found (entries (drop i ms)) ≡ whole → with_members (put m.0.now (view m.1) found) (entries (drop (i + 1) ms)) ≡ whole
 turn ms i m found whole lt at so_far =

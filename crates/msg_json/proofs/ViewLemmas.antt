@@ -50,6 +50,6 @@ pub put_found : (b : Bool) (k l : List ℕ) (d : Data) (ms : Members) → bytes_
 put_found true k l d ms e = ap (λ x. get_member x (put l d ms)) (sym ((bytes_eq-Decides l k).0 e)) ∙ get_member-put l d ms
 put_found false k l d ms e = get_member-put_other k l d ms (λ same. true≢false (sym ((bytes_eq-Decides l k).1 (sym same)) ∙ e))
 
--- a key's last member is found
+-- the last member with a key is found
 pub get_member-push : (k : List ℕ) (ms : List Entry) (m : Entry) → get_member k (members_view (ms ++ m ∷ [])) ≡ cond (bytes_eq m.0.now k) (Some (view m.1)) (get_member k (members_view ms))
 get_member-push k ms m = ap (get_member k) (members_view-push ms m) ∙ put_found (bytes_eq m.0.now k) k m.0.now (view m.1) (members_view ms) refl

@@ -1,4 +1,4 @@
--- What stands first in a reader's tokens, as data, and the tokens after it.
+-- What a reader's tokens begin with, as data, and the tokens after it.
 use Rattle.std.specs.Prelude.{ℕ, length}
 use Rattle.json.specs.Json.{Parse, value, items, members}
 use Rattle.serde_json.specs.Data.{Data, Items, Members, no_members}

@@ -1,4 +1,4 @@
--- The data that a tree stands for.
+-- The data of a tree.
 use Rattle.std.specs.Prelude.{ℕ, List, [], ◌∷◌, map}
 use Rattle.std.specs.Borrow.{Bor}
 use Rattle.serde_json.specs.Data.{Data, null, boolean, number, string, array, object, Items, Members, no_members, put}
@@ -11,7 +11,7 @@ abbrev pub with_members : Members → List (Bor (List ℕ) × Data) → Members
 with_members found [] = found
 with_members found (m ∷ ms) = with_members (put m.0.now m.1 found) ms
 
--- one level, with each value inside already seen as its data
+-- one level, with the data of each value inside
 abbrev pub view_step : Tree-F Data → Data
 view_step Tree-F.Null = null
 view_step (Tree-F.Bool b) = boolean b
@@ -20,7 +20,7 @@ view_step (Tree-F.Text s) = string s.now
 view_step (Tree-F.Array vs) = array (items_of vs.now)
 view_step (Tree-F.Object ms) = object (with_members no_members ms.now)
 
--- a tree as serde_json has its text's value
+-- the data of a tree, which is serde_json's value of the same text
 abbrev pub view : Tree → Data
 view = fold-Tree Data view_step
 

@@ -1,8 +1,8 @@
 //! JSON texts as trees that borrow their strings from the text.
 //!
-//! [`read`] makes a [`Tree`] of a text that is JSON, with its lists in an arena: it is read in one
-//! pass, and nothing of it is dropped. It keeps an object's members as they come. [`has_keys`],
-//! [`get`] and [`whole`] look into it in the terms of JSON's data: the last member of a key counts.
+//! [`read`] makes a [`Tree`] from a JSON text in one pass, with its lists in an arena. The tree
+//! keeps all members of an object, in their order. [`has_keys`], [`get`] and [`whole`] look into a
+//! tree as JSON data, in which the last member with a key counts.
 #![tactic(auto)]
 
 mod look;

@@ -10,7 +10,7 @@ ghost use Rattle.msg_json.specs.Keys.{has_keys};
 
 use crate::tree::Tree;
 
-/// The value of a key, in time that grows with the members.
+/// Returns the value of a key, in time proportional to the number of members.
 pub fn get<'v, 't, 'b>(value: &'v Tree<'t, 'b>, key: &str) -> Option<&'v Tree<'t, 'b>>
     ensures { option_map (λ v. view v.now) result ≡ get key.now (view value.now) }
 {
@@ -20,7 +20,7 @@ pub fn get<'v, 't, 'b>(value: &'v Tree<'t, 'b>, key: &str) -> Option<&'v Tree<'t
     }
 }
 
-// The value of the last member of a key.
+// Returns the value of the last member with a key.
 fn last<'v, 't, 'b>(members: &'v [(&'t str, Tree<'t, 'b>)], key: &str) -> Option<&'v Tree<'t, 'b>>
     ensures { option_map (λ v. view v.now) result ≡ get_member key.now (members_view members.now) }
 {
@@ -35,7 +35,7 @@ fn last<'v, 't, 'b>(members: &'v [(&'t str, Tree<'t, 'b>)], key: &str) -> Option
     None
 }
 
-/// The number, where it is an integer that fits and is written without a point or an exponent.
+/// Returns the number, if it is an integer that fits and is written without a point or an exponent.
 pub fn whole(value: &Tree<'_, '_>) -> Option<i64>
     ensures { result ≡ option_and_then as_i64 (as_number (view value.now)) }
 {
@@ -45,7 +45,7 @@ pub fn whole(value: &Tree<'_, '_>) -> Option<i64>
     }
 }
 
-/// Whether this is an object with so many keys, where a key that comes twice counts once.
+/// Whether this is an object with this number of keys. A key that comes twice counts once.
 pub fn has_keys(value: &Tree<'_, '_>, count: usize) -> bool
     ensures { result ≡ has_keys count (view value.now) }
 {
@@ -70,8 +70,8 @@ fn are_keys(members: &[(&str, Tree<'_, '_>)], count: usize) -> bool
     keys == count
 }
 
-// From the last to the first, so that a key is found where it came last: all searches of an object
-// together take as many steps as it has members and keys, multiplied.
+// The search goes from the last member to the first, so that a key is found where it came last. All
+// searches of an object together take at most as many steps as its members times its keys.
 fn is_among(members: &[(&str, Tree<'_, '_>)], key: &str) -> bool
     ensures { result ≡ list_any (λ m. bytes_eq m.0.now key.now) members.now }
 {

@@ -9,10 +9,10 @@ ghost use Rattle.serde_json.specs.View.{number_view};
 use fast_float::Numeral;
 use serde_json::Number;
 
-/// The number that a numeral writes, or none where it is too large for a float.
+/// Reads a numeral, and gives no number if it is too large for a float.
 ///
-/// Digits alone, as most numbers of a document are, are read in one pass, which looks for no point
-/// and no exponent.
+/// Most numbers of a document are digits alone. These are read in one pass, which looks for no
+/// point and no exponent.
 pub(crate) fn number(text: &str) -> Option<Number>
     ensures { option_map number_view result ≡ number_of text.now }
 {
@@ -26,8 +26,8 @@ pub(crate) fn number(text: &str) -> Option<Number>
     }
 }
 
-// The next two stand apart from `number`, which would pay at its entry for what they keep on the
-// stack.
+// The next two functions are separate from `number`, which would otherwise reserve their stack
+// space at its entry.
 #[inline(never)]
 fn after_minus(bytes: &[u8]) -> Option<Number>
     ensures { option_map number_view result ≡ number_from true (scan bytes.now) }
@@ -42,8 +42,8 @@ fn without_minus(bytes: &[u8]) -> Option<Number>
     unsigned(&Numeral::scan(bytes))
 }
 
-// The number that digits alone write, where it fits. The kit's reader would pass over a plus, which
-// isn't JSON's.
+// Reads a number that is digits alone, if it fits. The kit's reader would skip a plus, which JSON
+// doesn't have.
 fn plain_digits(bytes: &[u8]) -> Option<u64>
     ensures { IfSome result (λ n. number_from false (scan bytes.now) ≡ Some (unsigned n)) }
 {
@@ -75,7 +75,7 @@ fn unsigned(numeral: &Numeral<'_>) -> Option<Number>
     }
 }
 
-// A zero with a sign is a float.
+// A zero with a minus is a float.
 fn negative(numeral: &Numeral<'_>) -> Option<Number>
     ensures { option_map number_view result ≡ number_from true numeral.now }
 {

@@ -15,7 +15,7 @@ use json::{Reader, Scratch, Token};
 use std::alloc::{AllocError, Global};
 use thiserror::Error;
 
-/// How deep lists and objects may nest, as in serde_json.
+/// The deepest nesting of lists and objects, as in serde_json.
 const MAX_DEPTH: usize = 127;
 
 /// Why a text was not read.
@@ -27,12 +27,12 @@ pub enum JsonFault {
     Memory,
 }
 
-/// Reads a text: no string is copied but one with an escape, which stands in `scratch`. The lists
-/// and objects of the tree lie in the arena, each in as much room as it takes.
+/// Reads a text. Only strings with an escape are copied, into `scratch`. The lists and objects of
+/// the tree lie in the arena, each in as much room as it takes.
 ///
-/// `NotJson` comes for bytes that aren't UTF-8 or no JSON text (RFC 8259), for lists and objects
-/// that nest deeper than 127, for a lone surrogate and for a number too large for a float; `Memory`
-/// wherever a growth is refused, and never of a text without bytes.
+/// `NotJson` comes for bytes that aren't UTF-8 or no JSON text (RFC 8259). It also comes for lists
+/// and objects that nest deeper than 127, for a lone surrogate, and for a number too large for a
+/// float. `Memory` comes if an allocation is refused, but never for a text without bytes.
 pub fn read<'t, 'b>(
     alloc: Global,
     bump: &'b Bump,
@@ -70,7 +70,7 @@ fn read_str<'t, 'b>(
     Ok(value)
 }
 
-/// The next value. What is read of a list that is still open stands on the stack.
+/// Reads the next value. The stack holds what was read of lists that are still open.
 #[cycle(tree)]
 #[inline(always)]
 fn tree<'t, 'b>(
@@ -113,7 +113,7 @@ fn tree<'t, 'b>(
     }
 }
 
-/// The values of a list, to its end.
+/// Reads the values of a list, to its end.
 #[cycle(tree)]
 #[inline(never)]
 fn values<'t, 'b>(
@@ -141,7 +141,7 @@ fn values<'t, 'b>(
     }
 }
 
-/// A key, or none at an object's end.
+/// Reads a key, or gives none at the end of an object.
 #[inline(always)]
 fn next_key<'t>(reader: &mut Reader<'t>) -> Result<Option<&'t str>, JsonFault>
     ensures { MatchResult result
@@ -154,7 +154,7 @@ fn next_key<'t>(reader: &mut Reader<'t>) -> Result<Option<&'t str>, JsonFault>
     }
 }
 
-/// The members of an object, to its end.
+/// Reads the members of an object, to its end.
 #[cycle(tree)]
 #[inline(never)]
 fn members<'t, 'b>(

@@ -6,7 +6,7 @@ use crate::tree::Tree;
 use bumpalo::Bump;
 use std::alloc::{AllocError, Global};
 
-/// The values of open lists and the members of open objects, those of the innermost last.
+/// The values of open lists and the members of open objects. Those of the innermost come last.
 #[derive(Drop)]
 pub(crate) struct Stack<'t, 'b> {
     pub(crate) values: Vec<Tree<'t, 'b>>,
@@ -22,7 +22,7 @@ impl<'t, 'b> Stack<'t, 'b> {
     }
 }
 
-/// Takes what was pushed from a place on, and keeps it in the arena.
+/// Takes the values from a place on off the stack, and keeps them in the arena.
 #[inline(always)]
 pub(crate) fn kept<'b, T: Copy>(
     bump: &'b Bump,

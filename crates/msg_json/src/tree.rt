@@ -2,10 +2,10 @@
 
 use serde_json::Number;
 
-/// A JSON value. Its texts are those of the JSON text that it was read from, its lists and members
-/// lie in an arena, and numbers are read.
+/// A JSON value. Its texts are borrowed from the JSON text, its lists and members lie in an arena,
+/// and its numbers are read.
 ///
-/// An object's members stand as they come, also those whose key comes again.
+/// An object's members keep their order, and a key may come several times.
 #[cycle(tree)]
 #[derive(Clone, Copy)]
 pub enum Tree<'t, 'b> {

@@ -1,4 +1,4 @@
--- Tests of the numbers below one.
+-- Tests of the numbers below a number.
 use Rattle.std.proofs.Common.{◌≡◌, ◌<◌, ℕ, zero, suc, Bool, true, false, refl, ◌∙◌, ap, sym, arith, ⊎_elim, ne_eqb}
 use Rattle.std.specs.Prelude.{◌||◌, ◌≢◌, not}
 use Rattle.msg_names.proofs.TestLemmas.{neither}
@@ -9,7 +9,7 @@ or_true : (b : Bool) → (b || true) ≡ true
 or_true true = refl
 or_true false = refl
 
--- one that passes is some that passes
+-- if a number passes, some number passes
 pub some_below-true : (n k : ℕ) (test : ℕ → Bool) → k < n → test k ≡ true → some_below n test ≡ true
 some_below-true zero k test lt e = absurd (omega arith)
 some_below-true (suc n) k test lt e = ⊎_elim
@@ -17,7 +17,7 @@ some_below-true (suc n) k test lt e = ⊎_elim
     (λ ne. let inside : k < n = omega arith in ap (λ b. b || test n) (some_below-true n k test inside e))
     (number_or k n)
 
--- and where none passes each fails
+-- and if none passes, each fails
 pub some_below-false : (n k : ℕ) (test : ℕ → Bool) → some_below n test ≡ false → k < n → test k ≡ false
 some_below-false zero k test e lt = absurd (omega arith)
 some_below-false (suc n) k test e lt =

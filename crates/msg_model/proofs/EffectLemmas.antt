@@ -1,4 +1,4 @@
--- What a machine becomes when one of its lists is changed.
+-- How a machine changes when one of its lists is changed.
 use Rattle.std.proofs.Common.{◌≡◌, ◌≢◌, ◌<◌, ◌+◌, ◌-◌, ℕ, zero, suc, List, [], ◌∷◌, ◌++◌, length, map, replicate, set, get_or, take, drop, Option, Some, None, Bool, true, false, cond, refl, sym, ap, ◌∙◌, subst, ⊎_elim, arith, eq-eqb, ne_eqb, add-one}
 use Rattle.std.specs.Prelude.{◌==◌, slice_index, slice_index_or, slice_set}
 use Rattle.std.proofs.lemmas.Grind.{get_or-set_at}
@@ -27,7 +27,7 @@ everyone_next : (k m : ℕ) → set (replicate k true ++ replicate (suc m) false
 everyone_next zero m = refl
 everyone_next (suc k) m = ap (λ bs. true ∷ bs) (everyone_next k m)
 
--- one sender more
+-- one more sender
 pub everyone_step : (k : ℕ) → k < MOST_SENDERS → set (everyone k) k true ≡ everyone (k + 1)
 everyone_step k lt =
     let rest : MOST_SENDERS - k ≡ suc (MOST_SENDERS - suc k) = omega arith in
@@ -39,7 +39,7 @@ map_next f [] k d lt = absurd (omega arith)
 map_next f (x ∷ xs) zero d lt = refl
 map_next f (x ∷ xs) (suc k) d lt = ap (λ ys. f x ∷ ys) (map_next f xs k d (omega arith))
 
--- a list of which one more is mapped
+-- a list of which one more element is mapped
 pub map_step : {A : Type 0} (f : A → A) (xs ys : List A) (k : ℕ) (x d : A) → k < length xs → ys ≡ map f (take k xs) ++ drop k xs → x ≡ f (get_or ys k d)
     → set ys k x ≡ map f (take (k + 1) xs) ++ drop (k + 1) xs
 map_step f xs ys k x d lt is next =

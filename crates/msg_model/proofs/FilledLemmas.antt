@@ -28,7 +28,7 @@ stored_apart f a p w b q apart = ⊎_elim
     (number_or b a)
 
 module _ (look : History → ClassRef → ℕ → ℕ) (z : Layout) (some_sender : 0 < z.senders) where
-  -- a word that isn't 0 stays, but for a clear of its array
+  -- a word that isn't 0 stays, unless its array is cleared
   word_after : (m : State) (e : Event) (a p w : ℕ) → w ≢ 0 → Legal look z m e → m.standing a ≢ Free → m.word a p ≡ w → (after z m e).word a p ≡ w
   word_after m (Enter n) a p w some legal used is = is
   word_after m (Header n c) a p w some legal used is = is
@@ -46,7 +46,7 @@ module _ (look : History → ClassRef → ℕ → ℕ) (z : Layout) (some_sender
       stored_apart m.word b q 0 a p (λ e e'. used (ap m.standing e ∙ free)) ∙ is
   word_after m (Commit xs) a p w some legal used is = is
 
-  -- what is live for a class reference stays so
+  -- what is live for a class reference stays live
   live_after : (m : State) (e : Event) (c : ClassRef) → LeavesArrayOf c e → (after z m e).live c ≡ m.live c
   live_after m (Enter n) c other = refl
   live_after m (Header n d) c other = refl

@@ -1,5 +1,5 @@
--- What keeps a state sound, over any lookup. What is changed is given point by point, so that each
--- fact serves any way of keeping the words.
+-- What keeps a state sound, for any lookup. The changes are given point by point, so that each fact
+-- serves any way of keeping the words.
 use Rattle.std.proofs.Common.{◌≡◌, ◌≢◌, ℕ, ◌<◌, ◌≤◌, ◌⊎◌, List, length, take, Bool, cond, true, false, true≢false, Option, Some, None, refl, sym, ap, ◌∙◌, subst, inl, inr, ⊎_elim, arith}
 use Rattle.std.proofs.Math.Seq.{take-length}
 use Rattle.std.proofs.lemmas.List.{get_or-set_other}
@@ -30,14 +30,14 @@ not_free n c s e (inl v) = let u : Free ≡ Live c = sym e ∙ v in cc
 not_free n c s e (inr v) = let u : Free ≡ Retired c v.0 v.1 = sym e ∙ v.2 in cc
 
 module _ (look : History → ClassRef → ℕ → ℕ) (z : Layout) where
-  -- the facts of a sound state, by what they speak of
+  -- the facts of a sound state, by their subject
   abbrev pub HeldFor : (ℕ → Standing) → ℕ → ClassRef → ℕ → Type 0
   HeldFor st n c a = (n < z.senders) × KeepsFor (st a) c n
 
   abbrev pub LiveFor : History → (ClassRef → Option ℕ) → (ℕ → ℕ → ℕ) → ClassRef → ℕ → Type 0
   LiveFor h lv wd c a = (c.class < z.classes) × (a < length z.capacities) × (lv c ≡ Some a) × ((p : ℕ) → p < capacity z a → Agrees (look h) c (wd a p))
 
-  -- some sender is awaited, and none but senders
+  -- some sender is awaited, and only senders are
   abbrev pub AreAwaited : List Bool → Type 0
   AreAwaited aw = ((n : ℕ) × (n < z.senders) × (awaits aw n ≡ true)) × ((n : ℕ) → awaits aw n ≡ true → n < z.senders)
 
@@ -80,7 +80,7 @@ module _ (look : History → ClassRef → ℕ → ℕ) (z : Layout) where
   }
 
   module _ (h : History) (lv lv' : ClassRef → Option ℕ) (wd wd' : ℕ → ℕ → ℕ) (st st' : ℕ → Standing) (pl pl' : ℕ → Whereabouts) (s : Sound look z (state_from h lv wd st pl)) where
-    -- a sender moves: it holds what it held, or an array that is live
+    -- a sender moves: it holds what it held before, or an array that is live
     pub moves : ((n : ℕ) (c : ClassRef) (a : ℕ) → pl' n ≡ Holding c a → (pl n ≡ Holding c a) ⊎ ((n < z.senders) × (st a ≡ Live c))) → Sound look z (state_from h lv wd st pl')
     moves to = sound_from h lv wd st pl'
         (λ n c a e. ⊎_elim (λ (was : pl n ≡ Holding c a). held_for s n c a was) (λ (now : (n < z.senders) × (st a ≡ Live c)). (now.0, inl now.1)) (to n c a e))
@@ -162,7 +162,7 @@ module _ (look : History → ClassRef → ℕ → ℕ) (z : Layout) where
                   subst (λ (x : History × ClassRef × ℕ). Agrees (look x.0) x.1 x.2) (λ i. (first_all h r sr i, cd i, sym (words b p pl) i)) (o.3 p pl),
             )
 
-    -- an empty array that is free becomes the live one of c
+    -- an empty free array becomes the live one of c
     pub installs : (c : ClassRef) (a : ℕ) → c.class < z.classes → a < length z.capacities → lv c ≡ None → lv' c ≡ Some a → ((d : ClassRef) → d.class < z.classes → d ≢ c → lv' d ≡ lv d)
         → ((b q : ℕ) → q < capacity z b → wd' b q ≡ wd b q)
         → ((b : ℕ) → ((b ≢ a) × (st' b ≡ st b)) ⊎ ((b ≡ a) × (st' b ≡ Live c)))
@@ -222,7 +222,7 @@ module _ (look : History → ClassRef → ℕ → ℕ) (z : Layout) where
         ))
         (λ d b lt e. s.lawful.live_stands d b lt (sym (same d lt) ∙ e))
 
--- ---- an array that was looked at: what it is afterwards, it was
+-- ---- an array that was looked at is afterwards what it was before
 
 by_test : (c : ClassRef) (r : ℕ) (aw : List Bool) (b : Bool) → list_any (λ b. b) aw ≡ b → awaiting c r aw ≡ cond b (Retired c r aw) Free
 by_test c r aw b e = ap (λ x. cond x (Retired c r aw) Free) e

@@ -1,4 +1,4 @@
--- What an event that is not refused may rest on.
+-- What may be assumed of an event that is not refused.
 use Rattle.std.proofs.Common.{◌≡◌, ◌≢◌, ◌<◌, ℕ, List, [], ◌∷◌, length, Option, Some, None, Bool, true, false, refl, sym, ap, ◌∙◌, arith}
 use Rattle.std.specs.Prelude.{◌==◌, ◌||◌, ◌&&◌, not, nat_le, is_none, option_map}
 use Rattle.std.proofs.lemmas.Bool.Decides.{nat_tests}
@@ -18,7 +18,7 @@ use Rattle.msg_model.specs.State.{Layout, capacity, State, Agrees}
 use Rattle.msg_model.specs.Steps.{when, least_event_fault, is_out, is_in, is_free, is_past, held_capacity, is_entry, is_entry_in, disagrees, is_spoiled, some_below, Legal}
 use Rattle.msg_model.proofs.BelowLemmas.{some_below-false}
 
--- the first of the conditions doesn't hold, nor does one of the others
+-- neither the first of the conditions nor one of the others holds
 none_when : (b : Bool) (f : EventFault) (fs : List (Option EventFault)) → least_event_fault (when b f ∷ fs) ≡ None → (b ≡ false) × (least_event_fault fs ≡ None)
 none_when true f fs e = cc
 none_when false f fs e = (refl, e)

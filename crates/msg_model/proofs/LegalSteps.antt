@@ -18,7 +18,7 @@ use Rattle.msg_model.specs.declared.state.Whereabouts.TheVariants.{Out, In, Hold
 use Rattle.msg_model.specs.State.{Layout, capacity, State, Agrees}
 use Rattle.msg_model.specs.Steps.{when, least_event_fault, is_out, is_in, is_free, is_past, held_capacity, is_entry, is_entry_in, disagrees, is_spoiled, some_below, Legal}
 
--- a condition that doesn't hold, before others of which none holds
+-- a condition that doesn't hold, before others none of which holds
 unless : (b : Bool) (f : EventFault) (fs : List (Option EventFault)) → b ≡ false → least_event_fault fs ≡ None → least_event_fault (when b f ∷ fs) ≡ None
 unless true f fs e rest = cc
 unless false f fs e rest = rest

@@ -1,4 +1,4 @@
--- What a sender reads agrees with the method lists at a time since its header load.
+-- What a sender reads agrees with the method lists at some time since its header load.
 use Rattle.std.proofs.Common.{◌≡◌, ◌≢◌, ℕ, ◌<◌, ◌≤◌, ◌⊎◌, List, [], ◌∷◌, ◌++◌, Option, Some, None, Bool, true, refl, sym, ap, ◌∙◌, subst, inl, inr, ⊎_elim, arith, length-append}
 use Rattle.std.specs.Prelude.{All, if◌then◌else◌}
 use Rattle.std.proofs.lemmas.List.Elements.{All-head, All-tail, All-nil, All-cons}
@@ -18,8 +18,8 @@ use Rattle.msg_model.proofs.LegalLemmas.{legal_header, legal_read, legal_install
 use Rattle.msg_model.proofs.PointLemmas.{number_or, at_same, at_other}
 use Rattle.msg_model.proofs.RunLemmas.{moved, holds_seen, sound_run, legal_append, after_append}
 
--- Since the history had g changes a sender can hold arrays of one class reference alone, and what
--- it holds was not retired earlier.
+-- Since the history had g changes a sender can hold arrays of only one class reference, and what it
+-- holds was not retired earlier.
 pub record Since (g n : ℕ) (c : ClassRef) (m : State) : Type 0 where
   pub past : g ≤ size m.history
   pub class : (d : ClassRef) (a : ℕ) → m.whereabouts n ≡ Holding d a → d ≡ c
@@ -82,7 +82,7 @@ module _ (look : History → ClassRef → ℕ → ℕ) (z : Layout) (some_sender
       seen : (d : ClassRef) (a : ℕ) → at m.whereabouts n (seeing c (m.live c)) n ≡ Holding d a → (m.standing a ≡ Live d) × (d ≡ c)
       seen d a is = holds_seen look z some_sender m c (m.live c) s (legal_header look z m n c e).1 refl d a (sym (at_same m.whereabouts n (seeing c (m.live c))) ∙ is)
 
-  -- what a read sees agrees at a time since then
+  -- what a read sees agrees at some time since then
   pub read_since : (m : State) (g n : ℕ) (c : ClassRef) (p : ℕ) → Sound look z m → Since g n c m → Legal look z m (Read n p) → held_word m.word (m.whereabouts n) p ≢ 0
       → AgreesBetween look g m.history c (held_word m.word (m.whereabouts n) p)
   read_since m g n c p s since e some =
@@ -143,7 +143,7 @@ module _ (look : History → ClassRef → ℕ → ℕ) (z : Layout) (some_sender
       let (run, last) = legal_append look z m es (Clear a p ∷ []) legal in
       (sound_run look z some_sender m es s run).lawful.free_unheld a (legal_clear look z (after_all z m es) a p last.0).2
 
--- ---- who holds an array has loaded a header word
+-- ---- a sender that holds an array has loaded a header word
 
 module _ (z : Layout) (n : ℕ) (c : ClassRef) (a : ℕ) where
   pub held_before : (m : State) (e : Event) → IsNoHeader n e → (after z m e).whereabouts n ≡ Holding c a → m.whereabouts n ≡ Holding c a

@@ -47,13 +47,13 @@ module _ (look : History → ClassRef → ℕ → ℕ) (z : Layout) (some_sender
   only_senders : (n : ℕ) → awaits (everyone z.senders) n ≡ true → n < z.senders
   only_senders n e = awaits_no_more z.senders _ n e
 
-  -- a sender that comes to hold nothing
+  -- a sender that now holds nothing
   lets_go : (m : State) (n : ℕ) (p : Whereabouts) → ((c : ClassRef) (a : ℕ) → p ≢ Holding c a) → Sound look z m → Sound look z (record m { whereabouts = at m.whereabouts n p })
   lets_go m n p nothing s =
       keep.moves look z m.history m.live m.live m.word m.word m.standing m.standing m.whereabouts (at m.whereabouts n p) s
       (λ j c a e. ⊎_elim (λ (t : (j ≡ n) × (p ≡ Holding c a)). absurd (nothing c a t.1)) (λ (t : (j ≢ n) × (m.whereabouts j ≡ Holding c a)). inl t.1) (moved m.whereabouts n p j c a e))
 
-  -- the class reference has no live array any more; what it had is retired
+  -- the class reference no longer has a live array; the one that it had is retired
   flushed : (m : State) (c : ClassRef) (o : Option ℕ) → Sound look z m → c.class < z.classes → m.live c ≡ o → Sound look z (record m { live = at_class m.live c None; standing = retired z m c o })
   flushed m c None s lt e =
       keep.commits look z m.history m.live (at_class m.live c None) m.word m.word m.standing m.standing m.whereabouts m.whereabouts s m.history (omega arith) (λ r le. refl)

@@ -1,4 +1,4 @@
--- What was not affected since stays.
+-- What was not affected since stays the same.
 use Rattle.std.proofs.Common.{◌≡◌, ◌≢◌, ℕ, suc, ◌+◌, ◌-◌, List, All, ◌<◌, ◌≤◌, [], ◌∷◌, ◌++◌, length, take, drop, None, true, false, subst, refl, sym, ap, ◌∙◌, arith, append_assoc, append-nil, length-append}
 use Rattle.std.proofs.lemmas.List.{take-append-drop, length-take-le}
 use Rattle.std.specs.Prelude.{Bool, if◌then◌else◌}
@@ -68,7 +68,7 @@ last-most l n g (xs ∷ more) c le =
     let r = last-most (if is_affected_by_all g xs c then suc n else l) (suc n) (and_all g xs) more c e.1 in
     omega (arith, r)
 
--- where the last that affects comes before these lists, none of them does
+-- if the last change that affects it comes before these lists, none of them does
 pub last-apart : (l n : ℕ) (g : Log) (ls : List (List Change)) (c : ClassRef) → l ≤ n → last_in l n g ls c ≤ n → AreApart g ls c
 last-apart l n g [] c le few = tt
 last-apart l n g (xs ∷ more) c le few = step (is_affected_by_all g xs c) refl few (last-apart l (suc n) (and_all g xs) more c (omega (arith, le)))
@@ -86,7 +86,7 @@ accepted-split g (x ∷ xs) ys all = let r = accepted-split (logs.and_then g x) 
 all-origin : (g : Log) (xs : List Change) → (and_all g xs).origin ≡ g.origin
 all-origin g xs = ap (λ (l : Log). l.origin) (and_all-longer g xs)
 
--- lookups stay over lists of changes that are apart
+-- lookups stay the same over lists of changes that don't affect them
 pub stays : (g : Log) (ls : List (List Change)) (c : ClassRef) (s : ℕ) → IsSound g.origin → IsLog g → AreAccepted g (one_by_one ls) → AreApart g ls c
     → logs.lookup (walk g ls) c s ≡ logs.lookup g c s
 stays g [] c s sound is all apart = refl
@@ -118,7 +118,7 @@ accepted-whole : (h : History) → IsLog (log h) → AreAccepted (logs.empty h.o
 unfolding IsLog
 accepted-whole h is = is
 
--- where the last change that affects comes among the first lists
+-- if the last change that affects it comes among the first lists
 split : (o : OriginView) (ys zs : List (List Change)) (c : ClassRef) (s : ℕ) → IsSound o → AreAccepted (logs.empty o) (one_by_one (ys ++ zs))
     → last_in 0 0 (logs.empty o) (ys ++ zs) c ≤ length ys → logs.lookup (walk (logs.empty o) (ys ++ zs)) c s ≡ logs.lookup (walk (logs.empty o) ys) c s
 split o ys zs c s sound all few =
@@ -151,7 +151,7 @@ since h c s k sound is few le =
     let n : length (take k h.changes) ≡ k = length-take-le k h.changes le in
     sym (longer-stays h (first k h) c s sound is b (omega (arith, n, few)))
 
--- ---- one change more
+-- ---- one more change
 
 pub last-next : (h : History) (xs : List Change) (c : ClassRef) → last_affected (and_then h xs) c ≡ (if is_affected_by_all (log h) xs c then suc (size h) else last_affected h c)
 last-next h xs c =

@@ -1,4 +1,4 @@
--- What a whole machine's lists give.
+-- What the lists of a whole machine give.
 use Rattle.std.proofs.Common.{◌≡◌, ◌<◌, ℕ, List, length, map, Option, Some, None, sym, subst, ap, ◌∙◌, [], ◌∷◌, ◌++◌, refl}
 use Rattle.std.specs.Prelude.{IfSome, slice_index_or, slice_index}
 use Rattle.std.proofs.lemmas.List.{length-map, get_or_default, get_or-map}
@@ -69,7 +69,7 @@ sender_read whereabouts n p inside read = read ∙ get_or_default whereabouts n 
 pub standing_read : (v : MachineView) → IsWhole v → (a : ℕ) (s : Standing) → a < length (map length v.arrays) → s ≡ slice_index_or v.standings a s → s ≡ standing_at v.standings a
 standing_read v whole a s inside read = read ∙ get_or_default v.standings a s Free (subst (λ n. a < n) (array_count v.arrays ∙ sym whole.standings) inside)
 
--- the words of an array that was read, and how many it has
+-- the words of an array that was read, and their number
 pub words_read : (arrays : List (List ℕ)) (a : ℕ) (words : List ℕ) → a < length (map length arrays) → words ≡ slice_index_or arrays a words → words ≡ slice_index_or arrays a []
 words_read arrays a words inside read = read ∙ get_or_default arrays a words [] (subst (λ n. a < n) (array_count arrays) inside)
 
@@ -82,11 +82,11 @@ spoiled_as look arrays a words s inside read =
     let is = words_read arrays a words inside read in
     ap (λ ws. is_spoiled look (length ws) (slice_index ws) s) is ∙ ap (λ n. is_spoiled look n (word_at arrays a) s) (sym (capacity_is arrays a inside))
 
--- a change that is made by itself is refused as it is
+-- a change that is made on its own is refused as it is
 pub refused_alone : (g : Log) (x : Change) → refusal_of_all g (x ∷ []) ≡ refusal g x
 refused_alone g x = refused-one g x
 
--- the history of changes of which each was made by itself
+-- the history of changes each of which was made on its own
 abbrev pub alone : OriginView → List Change → History
 alone o xs = record { origin = o; changes = map (λ x. x ∷ []) xs }
 
@@ -97,6 +97,6 @@ alone-push o xs x = ap (λ cs. (let h : History = record { origin = o; changes =
     push [] = refl
     push (y ∷ ys) = ap (λ cs. (y ∷ []) ∷ cs) (push ys)
 
--- tables that stand at it, and then at one change more
+-- tables that are at a history, and then at it with one more change
 pub stands_longer : (t : TablesView) (o : OriginView) (xs : List Change) (x : Change) → StandsAt t (logs.and_then (log (alone o xs)) x) → StandsAt t (log (alone o (xs ++ x ∷ [])))
 stands_longer t o xs x stands = subst (λ g. StandsAt t g) (sym (log-one (alone o xs) x) ∙ ap log (sym (alone-push o xs x))) stands

@@ -23,7 +23,7 @@ pub data Event : Type 0 where
 abbrev pub commit_of : Change → Event
 commit_of x = Commit (x ∷ [])
 
--- what is made to happen on a `Machine`, whose commits are of one change each
+-- what is applied to a `Machine`, whose commits are of one change each
 abbrev pub event_of : made.Event → Event
 event_of (by.Enter n) = Enter n
 event_of (by.Header n c) = Header n c

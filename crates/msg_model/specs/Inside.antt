@@ -5,7 +5,7 @@ use Rattle.msg_tables.specs.Stands.{StandsAt}
 use Rattle.msg_model.specs.declared.machine.Machine.TheInside.{Inside}
 use Rattle.msg_model.specs.View.{MachineView, IsWhole}
 
--- what contracts see of a machine
+-- the contracts' view of a machine
 abbrev pub view_of : Inside → MachineView
 view_of i = record {
   history = record { origin = i.origin.value; changes = map (λ x. x ∷ []) i.changes.items };

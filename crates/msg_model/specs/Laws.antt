@@ -1,5 +1,5 @@
--- Laws of the machine: of every lookup, every layout with some sender, and every list of events
--- that isn't refused.
+-- Laws of the machine, for every lookup, every layout with a sender, and every list of events none
+-- of which is refused.
 use Rattle.std.specs.Prelude.{◌≡◌, ◌≢◌, ℕ, suc, ◌<◌, ◌≤◌, List, [], ◌∷◌, ◌++◌, All, if◌then◌else◌}
 use Rattle.msg_names.specs.declared.value.ClassRef.{ClassRef}
 use Rattle.msg_buckets.specs.Word.{sel_of}
@@ -34,18 +34,18 @@ abbrev pub NobodyHoldsInstalled : Type 0
 NobodyHoldsInstalled = (look : History → ClassRef → ℕ → ℕ) (z : Layout) (origin : OriginView) (es : List Event) (c : ClassRef) (a : ℕ) → 0 < z.senders
     → AreLegal look z (opening origin) (es ++ Install c a ∷ []) → (n : ℕ) (d : ClassRef) → (after_all z (opening origin) es).whereabouts n ≢ Holding d a
 
--- nor one of which a word is cleared next
+-- nobody holds an array a word of which is cleared next
 abbrev pub NobodyHoldsCleared : Type 0
 NobodyHoldsCleared = (look : History → ClassRef → ℕ → ℕ) (z : Layout) (origin : OriginView) (es : List Event) (a p : ℕ) → 0 < z.senders
     → AreLegal look z (opening origin) (es ++ Clear a p ∷ []) → (n : ℕ) (d : ClassRef) → (after_all z (opening origin) es).whereabouts n ≢ Holding d a
 
--- who holds an array for a class reference has loaded its header word, and none since
+-- a sender that holds an array for a class reference has loaded its header word, and none since
 abbrev pub HolderHasLoaded : Type 0
 HolderHasLoaded = (z : Layout) (origin : OriginView) (es : List Event) (n : ℕ) (c : ClassRef) (a : ℕ)
     → (after_all z (opening origin) es).whereabouts n ≡ Holding c a → HasLoaded n c es
 
--- who reads next holds an array for a class reference, and has loaded its header word, and none
--- since
+-- a sender that reads next holds an array for a class reference; it has loaded its header word, and
+-- none since
 abbrev pub ReaderHolds : Type 0
 ReaderHolds = (look : History → ClassRef → ℕ → ℕ) (z : Layout) (origin : OriginView) (es : List Event) (n p : ℕ) → AreLegal look z (opening origin) (es ++ Read n p ∷ [])
     → (c : ClassRef) × (a : ℕ) × ((after_all z (opening origin) es).whereabouts n ≡ Holding c a) × HasLoaded n c es
@@ -56,8 +56,8 @@ ReadHasSelector = (look : History → ClassRef → ℕ → ℕ) (z : Layout) (or
     → AreLegal look z (opening origin) (es ++ Read n p ∷ [])
     → let m = after_all z (opening origin) es in held_word m.word (m.whereabouts n) p ≢ 0 → 0 < sel_of (held_word m.word (m.whereabouts n) p)
 
--- and the implementation that was looked up for that, not before the reader's last header load and
--- not after the read
+-- and the implementation that was looked up for that selector, not before the reader's last header
+-- load and not after the read
 abbrev pub ReadAgreesSinceHeader : Type 0
 ReadAgreesSinceHeader = (look : History → ClassRef → ℕ → ℕ) (z : Layout) (origin : OriginView) (before mid : List Event) (n : ℕ) (c : ClassRef) (p : ℕ) → 0 < z.senders
     → AreLegal look z (opening origin) (before ++ Header n c ∷ mid ++ Read n p ∷ []) → All (IsNoHeader n) mid
@@ -66,28 +66,29 @@ ReadAgreesSinceHeader = (look : History → ClassRef → ℕ → ℕ) (z : Layou
     → AgreesBetween look (size (after_all z (opening origin) before).history) m.history c (held_word m.word (m.whereabouts n) p)
 
 -- A word that was filled in is read at its place by each sender whose last header load came before
--- the class reference was flushed or had another array.
+-- the class reference was flushed or got another array.
 abbrev pub FilledIsRead : Type 0
 FilledIsRead = (look : History → ClassRef → ℕ → ℕ) (z : Layout) (origin : OriginView) (before mid more : List Event) (n : ℕ) (c : ClassRef) (p w : ℕ) → 0 < z.senders
     → AreLegal look z (opening origin) (before ++ Fill c p w ∷ mid ++ Header n c ∷ more ++ Read n p ∷ []) → All (LeavesArrayOf c) mid → All (IsNoHeader n) more
     → let m = after_all z (opening origin) (before ++ Fill c p w ∷ mid ++ Header n c ∷ more) in held_word m.word (m.whereabouts n) p ≡ w
 
--- ---- how long lookups stay
+-- ---- how long lookups stay the same
 
--- After any number of changes since the last that affects a class reference, its lookups are those
--- of all changes.
+-- Take any number of changes since the last that affects a class reference. Its lookups after them
+-- are those after all changes.
 abbrev pub LookupStaysSince : Type 0
 LookupStaysSince = (h : History) (c : ClassRef) (s k : ℕ) → IsSound h.origin → IsLog (log h) → last_affected h c ≤ k → k ≤ size h → lookup (first k h) c s ≡ lookup h c s
 
--- the same of a history and one that begins with it
+-- the same for a history and one that begins with it
 abbrev pub LookupStaysInLonger : Type 0
 LookupStaysInLonger = (p h : History) (c : ClassRef) (s : ℕ) → IsSound p.origin → IsLog (log p) → BeginsWith p h → last_affected p c ≤ size h → lookup p c s ≡ lookup h c s
 
--- one list of changes more is the last that affects a class reference, or is none of those that do
+-- one more list of changes is the last that affects a class reference, or is not among those that
+-- do
 abbrev pub LastAffectedOfLonger : Type 0
 LastAffectedOfLonger = (h : History) (xs : List Change) (c : ClassRef)
     → last_affected (and_then h xs) c ≡ (if is_affected_by_all (log h) xs c then suc (size h) else last_affected h c)
 
--- the last that affects a class reference is one of the history's
+-- the last list that affects a class reference is one of the history's
 abbrev pub LastAffectedIsReached : Type 0
 LastAffectedIsReached = (h : History) (c : ClassRef) → last_affected h c ≤ size h

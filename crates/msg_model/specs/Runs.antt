@@ -25,7 +25,7 @@ abbrev pub after_all : Layout → State → List Event → State
 after_all z m [] = m
 after_all z m (e ∷ es) = after_all z (after z m e) es
 
--- none of them is refused where it comes
+-- no event is refused at its place
 abbrev pub AreLegal : (History → ClassRef → ℕ → ℕ) → Layout → State → List Event → Type 0
 AreLegal look z m [] = Unit {0}
 AreLegal look z m (e ∷ es) = Legal look z m e × AreLegal look z (after z m e) es

@@ -10,6 +10,6 @@ use Rattle.msg_model.specs.Steps.{is_spoiled, is_spoiled_entry}
 abbrev pub spoils_word : Log → Change → ClassRef → ℕ → Bool
 spoils_word h x c word = is_spoiled_entry (lookup (and_then h x)) c word
 
--- some of these words is one, where they are those of the live array
+-- one of these words is such an entry, if they are those of the live array
 abbrev pub spoils_some : Log → Change → ClassRef → List ℕ → Bool
 spoils_some h x c words = is_spoiled (lookup (and_then h x)) (length words) (slice_index words) (Live c)

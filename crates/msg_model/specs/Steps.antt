@@ -1,4 +1,4 @@
--- The events: when each is refused, what it does, and what it shows.
+-- The events: when each is refused, what it does, and what it returns.
 use Rattle.std.specs.Prelude.{◌≡◌, ℕ, zero, suc, ◌-◌, ◌==◌, ◌||◌, ◌&&◌, not, nat_le, List, [], ◌∷◌, ◌++◌, length, replicate, slice_set, Bool, true, false, Option, Some, None, is_none, option_map, if◌then◌else◌}
 use Rattle.std.specs.List.{list_any}
 use Rattle.msg_names.specs.declared.value.ClassRef.{ClassRef}
@@ -32,7 +32,7 @@ at_class f c x d = if same_class d c then x else f d
 abbrev pub everyone : ℕ → List Bool
 everyone senders = replicate senders true ++ replicate (MOST_SENDERS - senders) false
 
--- where a sender is that has seen this array of a class reference, or none
+-- the position of a sender that has seen this array of a class reference, or none
 abbrev pub seeing : ClassRef → Option ℕ → Whereabouts
 seeing c None = In
 seeing c (Some a) = Holding c a
@@ -47,7 +47,7 @@ abbrev pub retired : Layout → State → ClassRef → Option ℕ → (ℕ → S
 retired z m c None = m.standing
 retired z m c (Some a) = at m.standing a (Retired c (size m.history) (everyone z.senders))
 
--- the standing of an array that awaits these senders: free, where it awaits none
+-- the standing of an array that awaits these senders: free, if it awaits none
 abbrev pub awaiting : ClassRef → ℕ → List Bool → Standing
 awaiting c r awaited = if list_any (λ b. b) awaited then Retired c r awaited else Free
 
@@ -101,7 +101,7 @@ live_retired z c m = record m { standing = retired z m c (m.live c) }
 abbrev pub all_seen_out : ℕ → State → State
 all_seen_out n m = record m { standing = λ a. seen_out n (m.standing a) }
 
--- ---- what it shows
+-- ---- what an event returns
 
 -- the word at a place of the array that is held
 abbrev pub held_word : (ℕ → ℕ → ℕ) → Whereabouts → ℕ → ℕ
@@ -109,7 +109,7 @@ held_word words Out p = 0
 held_word words In p = 0
 held_word words (Holding c a) p = words a p
 
--- what the one who does an event sees
+-- what the one who makes an event sees
 abbrev pub shows : State → Event → Seen
 shows m (Header n c) = Array (m.live c)
 shows m (Read n p) = Word (held_word m.word (m.whereabouts n) p)
@@ -124,11 +124,11 @@ shows m (Commit xs) = Nothing
 
 -- ---- when it is refused
 
--- the fault, where its condition holds
+-- the fault, if its condition holds
 abbrev pub when : Bool → EventFault → Option EventFault
 when b f = if b then Some f else None
 
--- of the faults in their order the first that is there
+-- the first of the faults, in their order, that is there
 abbrev pub least_event_fault : List (Option EventFault) → Option EventFault
 least_event_fault [] = None
 least_event_fault (None ∷ fs) = least_event_fault fs
@@ -139,18 +139,18 @@ is_in Out = false
 is_in In = true
 is_in (Holding c a) = false
 
--- how many words the array that is held has, if one is
+-- the number of words of the array that is held, if one is
 abbrev pub held_capacity : Layout → Whereabouts → Option ℕ
 held_capacity z Out = None
 held_capacity z In = None
 held_capacity z (Holding c a) = Some (capacity z a)
 
--- the place is past the end of an array of so many words, if there is one
+-- the place is past the end of an array with this number of words, if there is one
 abbrev pub is_past : ℕ → Option ℕ → Bool
 is_past p None = false
 is_past p (Some words) = nat_le words p
 
--- nobody holds the array, and it is no class reference's
+-- nobody holds the array, and no class reference has it
 abbrev pub is_free : Standing → Bool
 is_free Free = true
 is_free (Live c) = false
@@ -170,7 +170,7 @@ abbrev pub is_entry_in : (ℕ → ℕ → ℕ) → Option ℕ → ℕ → Bool
 is_entry_in words None p = false
 is_entry_in words (Some a) p = is_entry (words a p)
 
--- the word has no selector, or not the implementation that is looked up for it
+-- the word has no selector, or its implementation is not the one that is looked up for it
 abbrev pub disagrees : (ClassRef → ℕ → ℕ) → ClassRef → ℕ → Bool
 disagrees look c word = sel_of word == 0 || not (imp_of word == look c (sel_of word))
 
@@ -218,7 +218,7 @@ module _ (look : History → ClassRef → ℕ → ℕ) (z : Layout) (m : State) 
   abbrev pub spoils : List Change → Bool
   spoils xs = some_below (length z.capacities) (spoils_array xs)
 
-  -- what speaks against an event, in the order of the faults
+  -- the conditions under which an event is refused, in the order of the faults
   abbrev pub conditions : Event → List (Option EventFault)
   conditions (Enter n) = no_sender n ∷ not_out n ∷ []
   conditions (Header n c) = no_sender n ∷ no_class c ∷ when (not (is_in (m.whereabouts n))) NotIn ∷ []

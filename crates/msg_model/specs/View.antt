@@ -1,4 +1,4 @@
--- What contracts see of `Machine`, and the state that it is.
+-- The contracts' view of `Machine`, and its state.
 use Rattle.std.specs.Prelude.{◌≡◌, ◌<◌, ◌≤◌, ◌*◌, ℕ, List, [], length, map, Option, Some, None, slice_index, slice_index_or}
 use Rattle.msg_tables.specs.Origin.{OriginView, class_total}
 use Rattle.msg_names.specs.declared.value.ClassRef.{ClassRef}
@@ -11,7 +11,7 @@ use Rattle.msg_model.specs.declared.state.Whereabouts.{Whereabouts}
 use Rattle.msg_model.specs.declared.state.Whereabouts.TheVariants.{Out, In, Holding}
 use Rattle.msg_model.specs.State.{Layout, State, layout_for}
 
--- what contracts see of a machine: its history, and by number what each word says
+-- the contracts' view of a machine: its history, and by number what each word says
 pub record MachineView : Type 0 where
   pub history : History
   -- the live array of each class reference, at its slot
@@ -42,7 +42,7 @@ layout_of v = record {
   capacities = map length v.arrays;
 }
 
--- there are the classes of an origin, so many senders, and arrays of these capacities
+-- the classes are those of an origin, with this number of senders, and arrays of these capacities
 abbrev pub HasLayout : OriginView → ℕ → List ℕ → MachineView → Type 0
 HasLayout origin senders capacities v = layout_of v ≡ layout_for origin senders capacities
 
@@ -56,7 +56,7 @@ state_of v = record {
   whereabouts = sender_at v.whereabouts;
 }
 
--- numbers that are kept name what is there
+-- all numbers that are kept name what exists
 pub record IsWhole (v : MachineView) : Type 0 where
   -- there is a header word for each class reference, and a standing for each array
   pub headers : length v.live ≡ 2 * class_total v.history.origin
@@ -66,17 +66,17 @@ pub record IsWhole (v : MachineView) : Type 0 where
   pub held_arrays : (n : ℕ) (c : ClassRef) (a : ℕ) → sender_at v.whereabouts n ≡ Holding c a → a < length v.arrays
   pub live_classes : (a : ℕ) (c : ClassRef) → standing_at v.standings a ≡ Live c → c.class < class_total v.history.origin
 
--- it is the number of an array
+-- the number is that of an array
 abbrev pub HasArray : MachineView → ℕ → Type 0
 HasArray v a = a < length (layout_of v).capacities
 
--- a fact about the array that is held, where one is
+-- a fact about the array that is held, if one is
 abbrev pub IfHolding : Whereabouts → (ℕ → Type 0) → Type 0
 IfHolding Out P = Unit {0}
 IfHolding In P = Unit {0}
 IfHolding (Holding c a) P = P a
 
--- a fact about the class reference for which an array is live, where it is
+-- a fact about the class reference for which an array is live, if it is
 abbrev pub IfLive : Standing → (ClassRef → Type 0) → Type 0
 IfLive Free P = Unit {0}
 IfLive (Live c) P = P c

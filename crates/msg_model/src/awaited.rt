@@ -7,7 +7,7 @@ ghost use Rattle.msg_model.specs.Steps.{everyone, seen_out};
 use crate::state::Standing;
 use msg_tables::MOST_SENDERS;
 
-// All senders, of whom there are so many.
+// All senders. `senders` is their number.
 pub(crate) fn everyone(senders: usize) -> [bool; MOST_SENDERS]
     requires { senders ≤ MOST_SENDERS }
     ensures { result ≡ everyone senders }

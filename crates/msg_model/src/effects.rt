@@ -18,7 +18,7 @@ use msg_names::ClassRef;
 use msg_tables::Change;
 use std::slice::from_ref;
 
-// ---- one word, or what one word means
+// ---- one word, or what one word says
 
 impl Machine {
     fn set_whereabouts(&mut self, sender: u32, whereabouts: Whereabouts)
@@ -53,7 +53,7 @@ impl Machine {
         self.arrays[array as usize].store(place, word);
     }
 
-    // The live array of a class reference, if any, is retired.
+    // Retires the live array of a class reference, if there is one.
     fn retire(&mut self, class: ClassRef)
         requires { class.class < (layout_of self.old).classes }
         ensures { ChangesBy (live_retired (layout_of self.old) class) self.old self.new }
@@ -65,7 +65,7 @@ impl Machine {
         }
     }
 
-    // No array awaits the sender any more.
+    // Notes that no array awaits the sender any more.
     fn await_no_more(&mut self, sender: u32)
         requires { sender < (layout_of self.old).senders }
         ensures { ChangesBy (all_seen_out sender) self.old self.new }
@@ -174,7 +174,7 @@ impl Machine {
 }
 
 impl Machine {
-    // The only event that takes memory: room for the change is made before it is applied.
+    // This is the only event that takes memory. Room for the change is made before it is applied.
     pub(crate) fn commit(&mut self, change: Change) -> Result<Seen, EventFault>
         requires { IsLegal self.old (commit_of change) }
         ensures happens { IfOk result (λ _. Happens self.old self.new (commit_of change)) }
@@ -192,7 +192,7 @@ impl Machine {
         Ok(Seen::Nothing)
     }
 
-    // Makes an event happen that isn't refused.
+    // Applies an event that isn't refused.
     pub(crate) fn happen(&mut self, event: Event) -> Result<Seen, EventFault>
         requires { IsLegal self.old (event_of event) }
         ensures happens { IfOk result (λ _. Happens self.old self.new (event_of event)) }

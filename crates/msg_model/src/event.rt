@@ -1,17 +1,17 @@
-//! Events, and what is seen at each.
+//! Events, and what each returns.
 
 use msg_names::ClassRef;
 use msg_tables::Change;
 
 /// One load or one store of one word that threads share.
 ///
-/// Senders and arrays are meant by their numbers, words by their whereabouts in an array.
+/// Senders and arrays are given by their numbers, words by their places in an array.
 #[derive(Drop)]
 pub enum Event {
     /// A sender sets its probe word.
     Enter(u32),
-    /// A sender loads the header word of a class reference, and from then on holds the array that
-    /// it names.
+    /// A sender loads the header word of a class reference. From then on it holds the array that
+    /// the word names.
     Header(u32, ClassRef),
     /// A sender loads a word of the array that it holds.
     Read(u32, usize),
@@ -23,7 +23,7 @@ pub enum Event {
     Install(ClassRef, u32),
     /// The live array of a class reference is retired.
     Flush(ClassRef),
-    /// A sender's probe word is loaded. One that is seen out is awaited no more.
+    /// A sender's probe word is loaded. A sender that is seen out is no longer awaited.
     Look(u32),
     /// 0 is stored in a word of a free array.
     Clear(u32, usize),
@@ -31,7 +31,7 @@ pub enum Event {
     Commit(Change),
 }
 
-/// What an event shows to the one that makes it.
+/// What an event returns to the one that makes it.
 #[derive(Clone, Copy, Debug, PartialEq, Eq)]
 pub enum Seen {
     Nothing,

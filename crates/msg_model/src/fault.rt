@@ -7,8 +7,8 @@ use msg_tables::ChangeFault;
 use std::alloc::AllocError;
 use thiserror::Error;
 
-/// Why an event did not happen. Where several hold, the first is answered; memory is wanted only
-/// after all others were excluded.
+/// Why an event did not happen. If several faults hold, the first is returned. Memory is needed
+/// only after all other faults were excluded.
 #[derive(Clone, Copy, Debug, PartialEq, Eq, Error)]
 pub enum EventFault {
     #[error("no sender")]
@@ -20,7 +20,7 @@ pub enum EventFault {
     /// The sender isn't out.
     #[error("sender not out")]
     NotOut,
-    /// The sender is out, or for a header load it holds an array.
+    /// The sender is out. For a header load: the sender holds an array.
     #[error("sender not in")]
     NotIn,
     /// The sender holds no array.
@@ -34,8 +34,8 @@ pub enum EventFault {
     NoPlace,
     #[error("array not free")]
     NotFree,
-    /// The word that would be written over isn't 0, or some word of the array that would be
-    /// installed.
+    /// The word that would be overwritten isn't 0, or some word of the array that would be
+    /// installed isn't.
     #[error("array not empty")]
     NotEmpty,
     /// The tables refuse the change.
@@ -44,7 +44,7 @@ pub enum EventFault {
     /// A word of a live array would not agree with the method lists.
     #[error("word disagrees")]
     Disagrees,
-    /// A growth was refused.
+    /// An allocation was refused.
     #[error("out of memory")]
     Memory,
 }
@@ -61,7 +61,8 @@ impl From<AllocError> for EventFault {
 }
 
 impl EventFault {
-    /// The number of the fault, from 1. Of several the least is answered.
+    /// The number of the fault, from 1. Of several faults the one with the least number is
+    /// returned.
     pub fn number(self) -> u32
         ensures { result ≡ event_fault_number self }
     {

@@ -1,6 +1,6 @@
 //! Whether an event is refused.
 //!
-//! Each condition is judged by a function of its own; what changes the machine is elsewhere.
+//! Each condition has a function of its own. The functions that change the machine are elsewhere.
 
 ghost use Rattle.std.specs.Prelude.{◌≡◌, [], ◌∷◌};
 ghost use Rattle.msg_model.specs.Event as events;
@@ -15,7 +15,7 @@ use msg_names::ClassRef;
 use msg_tables::Change;
 
 impl Machine {
-    /// The fault for which an event is refused, and none where it would happen.
+    /// Returns the fault for which an event is refused, or none if it would happen.
     pub(crate) fn refusal(&self, event: &Event) -> Option<EventFault>
         ensures { result ≡ refusal_of self.now (event_of event.now) }
     {

@@ -1,7 +1,7 @@
 //! Laws of the machine, over every layout and every list of events.
 //!
-//! They speak of the definitions alone, for every lookup function, so they hold of whatever keeps
-//! its words by these events.
+//! They are about the definitions alone, for every lookup function. So they hold for anything that
+//! keeps its words by these events.
 
 ghost use Rattle.msg_model.specs.Laws.{EventsKeepSound, FilledIsRead, HolderHasLoaded, LastAffectedIsReached, LastAffectedOfLonger, LookupStaysInLonger, LookupStaysSince, NobodyHoldsCleared, NobodyHoldsInstalled, ReadAgreesSinceHeader, ReadHasSelector, ReaderHolds, RunsAreLawful, RunsAreSound};
 
@@ -16,41 +16,41 @@ pub fn a_legal_run_is_lawful()
     ensures sound { RunsAreSound }
 {}
 
-/// No sender holds an array that is installed, or one of which a word is cleared.
+/// No sender holds an array that is installed, or one a word of which is cleared.
 pub fn nobody_holds_what_is_given_again()
     ensures install { NobodyHoldsInstalled }
     ensures clear { NobodyHoldsCleared }
 {}
 
-/// Who holds an array for a class reference has loaded its header word, and none since.
+/// A sender that holds an array for a class reference has loaded its header word, and none since.
 pub fn a_holder_has_loaded_the_header()
     ensures { HolderHasLoaded }
 {}
 
-/// A sender whose read isn't refused holds an array of some class reference, whose header word it
-/// has loaded, and none since. The word that it reads, where it isn't 0, has a selector and the
-/// implementation that was looked up for it at some point of the history: not before that sender's
-/// last header load, and not after the read.
+/// Consider a sender whose read isn't refused. It holds an array of some class reference, has
+/// loaded the header word of that, and none since. If the word that it reads isn't 0, the word has
+/// a selector. Its implementation was looked up for that selector at some point of the history: not
+/// before the sender's last header load, and not after the read.
 pub fn a_read_agrees_since_its_header_load()
     ensures holds { ReaderHolds }
     ensures entry { ReadHasSelector }
     ensures agrees { ReadAgreesSinceHeader }
 {}
 
-/// A word that was filled in stays until its class reference is flushed or has another array: each
-/// sender whose last header load came before that reads it at its place.
+/// A word that was filled in stays until its class reference is flushed or gets another array. Each
+/// sender whose last header load came before that reads the word at its place.
 pub fn a_filled_word_is_read()
     ensures { FilledIsRead }
 {}
 
-/// A lookup stays since its class reference was last affected: at any point from there on it finds
-/// what it finds now.
+/// A lookup stays the same since its class reference was last affected: at any point from there on
+/// it finds what it finds now.
 pub fn a_lookup_stays_since_its_class_was_affected()
     ensures since { LookupStaysSince }
     ensures longer { LookupStaysInLonger }
 {}
 
-/// One change more is the last that affects a class reference, or that is the one before.
+/// One more change is the last that affects a class reference, or the last is the same as before.
 pub fn the_last_change_that_affects_is_counted()
     ensures longer { LastAffectedOfLonger }
     ensures reached { LastAffectedIsReached }

@@ -1,5 +1,6 @@
-//! The machine of events: what senders, who read method caches without a lock, and the one keeper,
-//! who changes them, do to the words that they share, one load or store at a time.
+//! The machine of events. Senders read method caches without a lock, and one keeper changes the
+//! caches. The machine models what they do to the words that they share, one load or store at a
+//! time.
 //!
 //! Nothing here is shared. Caches that threads share are built on these definitions.
 #![tactic(auto)]

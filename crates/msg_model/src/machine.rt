@@ -23,7 +23,7 @@ pub struct Machine {
     pub(crate) origin: Snapshot<Origin>,
     pub(crate) changes: Vec<Change>,
     pub(crate) tables: Tables,
-    // What the last change wrote, whose room serves the next.
+    // What the last change wrote. Its room is used again for the next.
     pub(crate) written: Written,
     pub(crate) live: Vec<Option<u32>>,
     pub(crate) arrays: Vec<Buckets>,
@@ -124,7 +124,8 @@ impl Machine {
         self.tables.refusal(change)
     }
 
-    // Whether the word has no selector, or not the implementation that is looked up for it.
+    // Whether the word has no selector, or its implementation is not the one that is looked up for
+    // it.
     pub(crate) fn disagrees(&self, class: ClassRef, word: u64) -> bool
         requires { class.class < (layout_of self.now).classes }
         ensures { result ≡ disagrees (lookup (state_of self.now).history) class word }

@@ -52,7 +52,7 @@ impl Machine {
         })
     }
 
-    /// The machine of classes with so many senders, and arrays of these capacities.
+    /// Makes the machine of the classes, with a number of senders and arrays of these capacities.
     pub fn open<C: HasOrigin>(
         alloc: Global,
         classes: &C,

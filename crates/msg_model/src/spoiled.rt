@@ -1,4 +1,4 @@
-//! Whether words of a live array will agree with the method lists once a change is made.
+//! Whether words of a live array will agree with the method lists after a change is made.
 
 ghost use Rattle.std.specs.Prelude.{◌≡◌, ◌<◌, length};
 ghost use Rattle.msg_tables.specs.Log.{Log};

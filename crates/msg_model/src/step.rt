@@ -1,4 +1,4 @@
-//! One event after another.
+//! Applies one event after another.
 
 ghost use Rattle.std.specs.Prelude.{◌≡◌, IfOk, OnErr, IfErr, IsErrOf};
 ghost use Rattle.msg_model.specs.declared.fault.EventFault.{EventFault};
@@ -12,11 +12,11 @@ use crate::fault::EventFault;
 use crate::machine::Machine;
 
 impl Machine {
-    /// Makes an event happen, or says why not and changes nothing.
+    /// Applies an event, or returns why not and changes nothing.
     ///
-    /// Each event touches one word, but for `Look`, which goes over the standings of all arrays,
-    /// `Install`, which looks whether the array is empty, and `Commit`, which looks over all live
-    /// words. Only `Commit` takes memory.
+    /// Each event touches one word, with three exceptions. `Look` goes over the standings of all
+    /// arrays, `Install` checks that the array is empty, and `Commit` checks all live words. Only
+    /// `Commit` takes memory.
     pub fn step(&mut self, event: Event) -> Result<Seen, EventFault>
         ensures legal { IfOk result (λ _. IsLegal self.old (event_of event)) }
         ensures happens { IfOk result (λ _. Happens self.old self.new (event_of event)) }

@@ -1,4 +1,4 @@
--- Slots of class references, and when two are one.
+-- Slots of class references, and when two of them are equal.
 use Rattle.std.proofs.Common.{◌≡◌, ◌<◌, ◌≤◌, ◌+◌, ◌*◌, ℕ, Bool, true, false, cond, refl, arith, Option, Some, None}
 use Rattle.std.specs.Prelude.{◌==◌, ◌&&◌, IfSome}
 use Rattle.std.proofs.lemmas.Bool.Decides.{nat_tests}
@@ -14,7 +14,7 @@ slot_of-inside c classes slots e inside = at_meta c.meta
     at_meta true = omega arith
     at_meta false = omega arith
 
--- two class references have two slots
+-- two different class references have different slots
 pub slot_of-same : (c d : ClassRef) → slot_of c ≡ slot_of d → c ≡ d
 slot_of-same c d e =
     let (k, m) = at_meta c.meta d.meta e in
@@ -50,7 +50,7 @@ same_class-refl c = at_meta c.meta
     at_meta true = rw (equal c.class) refl
     at_meta false = rw (equal c.class) refl
 
--- what stands above a class reference is of its own class or of the superclass
+-- what is above a class reference is of its own class or of the superclass
 pub above-listed : (c : ClassRef) (o : Option ℕ) (n : ℕ) → c.class < n → IfSome o (λ d. d < n) → IfSome (above c o) (λ a. a.class < n)
 above-listed c (Some d) n own above' = above'
 above-listed c None n own above' = at_meta c.meta

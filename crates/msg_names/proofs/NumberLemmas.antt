@@ -54,7 +54,7 @@ number_stays names s t n e = at_test (list_any (bytes_eq s) names)
     at_test true = e
     at_test false = number_of-append names (s ∷ []) t n e
 
--- a text is among the names exactly where it has a number
+-- a text is among the names exactly if it has a number
 pub is_some-number_of : (names : List (List ℕ)) (text : List ℕ) → list_any (bytes_eq text) names ≡ is_some (number_of names text)
 is_some-number_of [] text = refl
 is_some-number_of (name ∷ names) text = ap (λ r. bytes_eq text name || r) (is_some-number_of names text) ∙ step (bytes_eq text name) (number_of names text)
@@ -127,7 +127,7 @@ numbered-push names text new all place name e =
       | inr h ↦ rw (h.0, ← h.1) (pushed names text new)
     ]
 
--- names stay names where a selector name is added that finds room
+-- names stay names if a selector name is added that finds room
 pub names-with_name : (names : List (List ℕ)) (text : List ℕ) → AreNames names → is_selector_name text ≡ true → length (with_name names text) ≤ MAX_NAMES → AreNames (with_name names text)
 names-with_name names text all good few = at_number (number_of names text) refl
   where

@@ -1,4 +1,4 @@
--- Texts of which none stands twice.
+-- Texts none of which occurs twice.
 use Rattle.std.proofs.Common.{◌≡◌, ℕ, zero, suc, ◌+◌, ◌⊎◌, inl, inr, List, [], ◌∷◌, ◌++◌, length, Option, None, Some, slice_get, refl, sym, ap, ◌∙◌}
 use Rattle.std.proofs.lemmas.Option.{same_Some}
 use Rattle.msg_names.specs.Numbering.{number_of, with_name, AreNumbered}
@@ -20,6 +20,6 @@ pushed texts text new all place t e =
       | inr h ↦ rw (h.0, ← h.1) (added texts text new)
     ]
 
--- none stands twice where a text is added that isn't there
+-- no text occurs twice after a text is added that wasn't there
 pub numbered-with : (texts : List (List ℕ)) (text : List ℕ) → number_of texts text ≡ None → AreNumbered texts → AreNumbered (with_name texts text)
 numbered-with texts text new all = rw (with_name-new texts text new) (pushed texts text new all)

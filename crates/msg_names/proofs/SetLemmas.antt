@@ -12,7 +12,7 @@ use Rattle.msg_names.specs.Name.{is_selector_name}
 use Rattle.msg_names.specs.Numbering.{number_of, with_name, AreNames}
 use Rattle.msg_names.proofs.NumberLemmas.{names-with_name}
 
--- a place, where it is one
+-- a place, if it is one
 abbrev place : ℕ → ℕ → Option ℕ
 place n len = cond (nat_lt n len) (Some n) None
 
@@ -24,7 +24,7 @@ found false n len r e = at_test (nat_lt n len) refl
     at_test true h = let k : nat_lt (1 + n) (suc len) ≡ true = grind (arith, nat_tests) in rw (e, h, k) (ap Some (omega arith))
     at_test false h = let k : nat_lt (1 + n) (suc len) ≡ false = grind (arith, nat_tests) in rw (e, h, k)
 
--- a text's number is one more than its place in the set
+-- the number of a text is one more than its place in the set
 pub number_of-position : {K : Type 0} (text_of : K → List ℕ) (keys : List K) (text : List ℕ) → number_of (map text_of keys) text ≡ option_map suc (position (λ k. bytes_eq text (text_of k)) keys)
 number_of-position text_of [] text = refl
 number_of-position text_of (k ∷ keys) text = found (bytes_eq text (text_of k)) _ (length keys) _ (number_of-position text_of keys text)
@@ -38,7 +38,7 @@ names-insert_key keys after k text is e =
     at_test true = refl
     at_test false = map-append string_bytes keys (k ∷ [])
 
--- the names after an intern, whatever it answered
+-- the names after an intern, whatever it returned
 pub names-interned : {T E : Type 0} (r : Result T E) (keys after : List (String Global)) (text : List ℕ) → OnOk r (map string_bytes after ≡ with_name (map string_bytes keys) text) → OnErr r (after ≡ keys) → length after ≤ MAX_NAMES
     → is_selector_name text ≡ true → AreNames (map string_bytes keys) → AreNames (map string_bytes after)
 names-interned (Ok x) keys after text grown same few good all =

@@ -8,7 +8,7 @@ use Rattle.msg_names.specs.declared.name.TheConstants.{MAX_NAME_BYTES, MAX_ARGUM
 abbrev pub colon : ℕ
 colon = 58
 
--- how many arguments a selector of this name takes
+-- the number of arguments that a selector with this name takes
 abbrev pub colons_of : List ℕ → ℕ
 colons_of text = count_by (λ b. b == colon) text
 
@@ -27,15 +27,15 @@ is_sized text = nat_le 1 (length text) && nat_le (length text) MAX_NAME_BYTES
 abbrev pub starts_with_digit : List ℕ → Bool
 starts_with_digit text = is_ascii_digit (slice_index text 0)
 
--- at most four colons, and a colon last where there is one
+-- at most four colons, and the last byte is a colon if there are any
 unfoldable pub ends_in_its_colons : List ℕ → Bool
 ends_in_its_colons text = nat_le (colons_of text) MAX_ARGUMENTS && (colons_of text == 0 || slice_index text (length text - 1) == colon)
 
--- the name of a class, an object or an implementation: 1 to 64 letters, digits and `_`, and no
--- digit first
+-- the name of a class, an object or an implementation: 1 to 64 letters, digits and `_`, of which
+-- the first is no digit
 unfoldable pub is_identifier : List ℕ → Bool
 is_identifier text = is_sized text && (not (starts_with_digit text) && list_all is_word_byte text)
 
--- the name of a selector: it may have up to four colons beside those, and then ends in one
+-- the name of a selector: it may also have up to four colons, and then ends in one
 unfoldable pub is_selector_name : List ℕ → Bool
 is_selector_name text = is_sized text && (not (starts_with_digit text) && (list_all is_selector_byte text && ends_in_its_colons text))

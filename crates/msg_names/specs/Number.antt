@@ -12,11 +12,11 @@ selector_number s = s.number
 abbrev pub imp_number : ImpRef → ℕ
 imp_number i = i.number
 
--- the selector of a number, which is 1 at least
+-- the selector with a number, which is at least 1
 abbrev pub selector_of : ℕ → Selector
 selector_of zero = record { number = 1; positive = suc-le-suc zero-le }
 selector_of (suc n) = record { number = suc n; positive = suc-le-suc zero-le }
 
--- the implementation of a number
+-- the implementation with a number
 abbrev pub imp_ref_of : ℕ → ImpRef
 imp_ref_of n = record { number = n }

@@ -8,7 +8,7 @@ use Rattle.msg_names.specs.Number.{selector_number}
 use Rattle.msg_names.specs.declared.names.TheConstants.{MAX_NAMES}
 use Rattle.msg_names.specs.declared.value.Selector.{Selector}
 
--- the number of a text: the place at which it stands, from 1
+-- the number of a text: its place in the list, from 1
 abbrev pub number_of : List (List ℕ) → List ℕ → Option ℕ
 number_of [] text = None
 number_of (name ∷ names) text = if bytes_eq text name then Some 1 else option_map suc (number_of names text)
@@ -17,11 +17,11 @@ number_of (name ∷ names) text = if bytes_eq text name then Some 1 else option_
 abbrev pub name_at : List (List ℕ) → ℕ → Option (List ℕ)
 name_at names number = slice_get names (number - 1)
 
--- the names, and the text last where it is none of them
+-- the names, with the text added at the end if it is not among them
 abbrev pub with_name : List (List ℕ) → List ℕ → List (List ℕ)
 with_name names text = if list_any (bytes_eq text) names then names else names ++ text ∷ []
 
--- each name's number is its place: no name stands twice
+-- each name's number is its place: no name occurs twice
 abbrev pub AreNumbered : List (List ℕ) → Type 0
 AreNumbered names = (place : ℕ) (name : List ℕ) → slice_get names place ≡ Some name → number_of names name ≡ Some (place + 1)
 
@@ -43,10 +43,10 @@ name_of names s = name_at names (selector_number s)
 abbrev pub IsSelectorOf : List (List ℕ) → List ℕ → Selector → Type 0
 IsSelectorOf names text s = number_of names text ≡ Some (selector_number s)
 
--- the text is none of the names
+-- the text is not among the names
 abbrev pub LacksName : List (List ℕ) → List ℕ → Type 0
 LacksName names text = list_any (bytes_eq text) names ≡ false
 
--- it is a selector name and none of these, of which there are as many as fit
+-- it is a selector name and not among the names, and as many names are there as fit
 abbrev pub LacksPlaceFor : List (List ℕ) → List ℕ → Type 0
 LacksPlaceFor names text = (is_selector_name text ≡ true) × (length names ≡ MAX_NAMES) × LacksName names text

@@ -8,10 +8,10 @@ use Rattle.msg_names.specs.declared.texts.TheConstants.{MAX_TEXTS}
 abbrev pub texts_of : List (Vec ℕ Global) → List (List ℕ)
 texts_of keys = map (λ (k : Vec ℕ Global). k.items) keys
 
--- the text of a number, of which the first is 1
+-- the text with a number; the first text has number 1
 abbrev pub text_at : List (List ℕ) → ℕ → Option (List ℕ)
 text_at texts number = if number == 0 then None else name_at texts number
 
--- the text is none of these, of which there are as many as fit
+-- the text is not among the texts, and as many texts are there as fit
 abbrev pub LacksPlaceFor : List (List ℕ) → List ℕ → Type 0
 LacksPlaceFor texts text = (length texts ≡ MAX_TEXTS) × LacksName texts text

@@ -9,7 +9,7 @@ use Rattle.msg_names.specs.Texts.{texts_of}
 abbrev pub view_of : Inside → List (List ℕ)
 view_of t = texts_of t.set.keys
 
--- there is a number for each, and none stands twice
+-- each text has a number, and no text occurs twice
 pub record AreTexts (t : Inside) : Type 0 where
   pub few : length t.set.keys ≤ MAX_TEXTS
   pub numbered : AreNumbered (texts_of t.set.keys)

@@ -13,7 +13,7 @@ pub fn forwarding_has_number_0()
     ensures { imp_number ImpRef.FORWARD ≡ 0 }
 {}
 
-/// Two texts with one number are one text.
+/// Two texts with the same number are the same text.
 pub fn one_number_is_one_name()
     ensures { NumbersAreOneToOne }
 {}
@@ -23,17 +23,17 @@ pub fn a_number_has_its_name()
     ensures { NumberedTextIsItsName }
 {}
 
-/// A name that is added gets the number after the last.
+/// A new name gets the number after the last one.
 pub fn a_new_name_has_the_next_number()
     ensures { NewNameHasNextNumber }
 {}
 
-/// A number stays, whatever name is added.
+/// A number stays the same when a name is added.
 pub fn a_number_stays()
     ensures { NumbersStay }
 {}
 
-/// The limits of names, as the document format has them.
+/// The limits of names, as in the document format.
 pub fn the_limits_are_the_formats()
     ensures bytes { MAX_NAME_BYTES ≡ 64 }
     ensures arguments { MAX_ARGUMENTS ≡ 4 }

@@ -1,6 +1,5 @@
 //! Selectors, the values of message sends, the names that number selectors, and interned texts for
-//! hosts that name things: each text has a number, from 1 in the order in which the texts first
-//! came.
+//! hosts that name things. Texts are numbered from 1, in the order in which they first came.
 #![tactic(auto)]
 
 pub mod laws;

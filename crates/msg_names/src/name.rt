@@ -4,13 +4,13 @@ ghost use Rattle.std.specs.Prelude.{◌≡◌, ◌<◌, length, IsTrue};
 ghost use Rattle.std.specs.List.{list_all};
 ghost use Rattle.msg_names.specs.Name as spec;
 
-/// How many bytes a name has at most.
+/// The most bytes that a name has.
 pub const MAX_NAME_BYTES: usize = 64;
 
-/// How many arguments a selector takes at most: a colon for each.
+/// The most arguments that a selector takes. Its name has a colon for each of them.
 pub const MAX_ARGUMENTS: usize = 4;
 
-/// Whether a text is a name of a class, an object or an implementation.
+/// Whether a text can be the name of a class, an object or an implementation.
 #[tactic(auto, unfolding(crate::specs::Name::is_identifier))]
 pub fn is_identifier(text: &str) -> bool
     ensures { result ≡ spec.is_identifier text.now }
@@ -19,7 +19,7 @@ pub fn is_identifier(text: &str) -> bool
     is_sized(bytes) && !bytes[0].is_ascii_digit() && are_word_bytes(bytes)
 }
 
-/// Whether a text is the name of a selector.
+/// Whether a text can be the name of a selector.
 #[tactic(auto, unfolding(crate::specs::Name::is_selector_name))]
 pub fn is_selector_name(text: &str) -> bool
     ensures { result ≡ spec.is_selector_name text.now }
@@ -74,7 +74,7 @@ fn ends_in_its_colons(bytes: &[u8]) -> bool
     colons <= MAX_ARGUMENTS && (colons == 0 || bytes[bytes.len() - 1] == b':')
 }
 
-/// How many colons there are.
+/// The number of colons.
 pub(crate) fn colon_count(bytes: &[u8]) -> usize
     ensures { result ≡ spec.colons_of bytes.now }
 {

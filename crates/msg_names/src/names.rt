@@ -1,4 +1,4 @@
-//! The selectors' names.
+//! The names of selectors.
 
 ghost use Rattle.std.specs.Prelude.{◌≡◌, ◌+◌, ◌<◌, ◌≤◌, ◌↔◌, [], length, option_map};
 ghost use Rattle.std.specs.Prelude.{IfOk, IfSome, IsErrOf, IsTrue, OnErr, OnOk, false};
@@ -14,7 +14,7 @@ use std::alloc::Global;
 use std::marker::Model;
 use thiserror::Error;
 
-/// How many names fit.
+/// The most names that fit.
 pub const MAX_NAMES: usize = 4096;
 
 /// Why a text was not interned.
@@ -28,7 +28,7 @@ pub enum NameFault {
     Memory,
 }
 
-/// Interned selector names: the list of them, in which each has its place as its number, from 1.
+/// Interned selector names: a list in which the place of each name, from 1, is its number.
 ///
 /// `find` and `intern` hash the text once; `text` and `colons` index.
 #[derive(Drop)]
@@ -57,7 +57,7 @@ impl Names {
         }
     }
 
-    /// How many names there are.
+    /// The number of names.
     pub fn len(&self) -> usize
         ensures len { result ≡ length self.now }
         ensures names { AreNames self.now }
@@ -71,14 +71,15 @@ impl Names {
         self.set.is_empty()
     }
 
-    /// The selector of a name.
+    /// Returns the selector with a name, if the list has the name.
     pub fn find(&self, text: &str) -> Option<Selector>
         ensures { option_map selector_number result ≡ number_of self.now text.now }
     {
         find_in(&self.set, text)
     }
 
-    /// The name of a selector. Only a selector whose number is above [`len`](Self::len) has none.
+    /// Returns the name of a selector. Only a selector whose number is above [`len`](Self::len) has
+    /// none.
     pub fn text(&self, selector: Selector) -> Option<&str>
         ensures text { option_map (λ s. s.now) result ≡ name_of self.now selector }
         ensures numbered { IfSome result (λ s. IsSelectorOf self.now s.now selector) }
@@ -86,7 +87,8 @@ impl Names {
         text_in(&self.set, selector)
     }
 
-    /// How many arguments a selector takes: the colons of its name.
+    /// Returns the number of arguments that a selector takes, which is the number of colons in its
+    /// name.
     pub fn colons(&self, selector: Selector) -> Option<u8>
         ensures colons { result ≡ option_map spec.colons_of (name_of self.now selector) }
         ensures few { IfSome result (λ n. n ≤ MAX_ARGUMENTS) }
@@ -95,7 +97,8 @@ impl Names {
         Some(colon_count(text.as_bytes()) as u8)
     }
 
-    /// The selector of a name. A name that is new gets the next number; only then is memory wanted.
+    /// Returns the selector with a name. A new name gets the next number; only a new name needs
+    /// memory.
     pub fn intern(&mut self, text: &str) -> Result<Selector, NameFault>
         ensures ok { IfOk result (IsSelectorOf self.new text.now) }
         ensures names { OnOk result (self.new ≡ with_name self.old text.now) }
@@ -133,7 +136,7 @@ fn text_in(set: &IndexSet<String>, selector: Selector) -> Option<&str>
     Some(name.as_str())
 }
 
-// The selector of a selector name.
+// Returns the selector with a name, which is valid.
 fn intern_in(set: &mut IndexSet<String>, text: &str) -> Result<Selector, NameFault>
     requires few { length set.old.keys ≤ MAX_NAMES }
     ensures ok { IfOk result (IsSelectorOf (texts_of set.new.keys) text.now) }

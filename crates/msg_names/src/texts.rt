@@ -1,4 +1,4 @@
-//! Interned texts, which may be any bytes. Nothing is forgotten.
+//! Interned texts, which may have any bytes. No text is ever removed.
 
 ghost use Rattle.std.specs.Prelude.{◌≡◌, ◌≤◌, ◌↔◌, [], length, IfOk, IfSome, IsErrOf, OnErr, OnOk, Some, option_map};
 ghost use Rattle.msg_names.specs.Name.{colons_of};
@@ -11,7 +11,7 @@ use std::alloc::Global;
 use std::marker::Model;
 use thiserror::Error;
 
-/// How many texts have numbers.
+/// The most texts that get numbers.
 pub const MAX_TEXTS: usize = 4_294_967_295;
 
 /// Why a text was not interned.
@@ -51,21 +51,21 @@ impl Texts {
         }
     }
 
-    /// How many texts there are.
+    /// The number of texts.
     pub fn len(&self) -> usize
         ensures { result ≡ length self.now }
     {
         self.set.len()
     }
 
-    /// The number of a text, where it has one.
+    /// Returns the number of a text, if it has one.
     pub fn find(&self, text: &[u8]) -> Option<u32>
         ensures { result ≡ number_of self.now text.now }
     {
         find_in(&self.set, text)
     }
 
-    /// The text of a number, where there is one.
+    /// Returns the text with a number, if there is one.
     pub fn text(&self, number: u32) -> Option<&[u8]>
         ensures text { option_map (λ t. t.now) result ≡ text_at self.now number }
         ensures numbered { IfSome result (λ t. number_of self.now t.now ≡ Some number) }
@@ -73,8 +73,8 @@ impl Texts {
         text_in(&self.set, number)
     }
 
-    /// How many colons the text of a number has: as many arguments as a selector takes whose name
-    /// it is.
+    /// Returns the number of colons in the text with a number. A selector with that name takes as
+    /// many arguments.
     pub fn colons(&self, number: u32) -> Option<usize>
         ensures { result ≡ option_map colons_of (text_at self.now number) }
     {
@@ -84,7 +84,7 @@ impl Texts {
         }
     }
 
-    /// The number of a text. A text that is new gets the next; only then is memory wanted.
+    /// Returns the number of a text. A new text gets the next number; only a new text needs memory.
     pub fn intern(&mut self, text: &[u8]) -> Result<u32, TextFault>
         ensures ok { IfOk result (λ n. number_of self.new text.now ≡ Some n) }
         ensures texts { OnOk result (self.new ≡ with_name self.old text.now) }

@@ -4,7 +4,7 @@ ghost use Rattle.std.specs.Prelude.{◌<◌};
 
 /// A selector by its number, which counts from 1.
 ///
-/// Two selectors of one [`Names`](crate::Names) are one exactly where their names are.
+/// Two selectors of one [`Names`](crate::Names) are the same exactly if their names are the same.
 #[derive(Clone, Copy, Debug, PartialEq, Eq)]
 pub struct Selector {
     number: u32,
@@ -15,7 +15,7 @@ impl Selector {
     ghost use Rattle.std.specs.Prelude.{◌≡◌, ◌<◌, MatchOption};
     ghost use Rattle.msg_names.specs.Number.{selector_number};
 
-    /// The selector of a number. Only 0 has none.
+    /// Returns the selector with a number. Only 0 gives none.
     pub fn of(number: u32) -> Option<Selector>
         ensures { MatchOption result (number ≡ 0) (λ s. selector_number s ≡ number) }
     {
@@ -45,11 +45,11 @@ impl ImpRef {
     ghost use Rattle.std.specs.Prelude.{◌≡◌};
     ghost use Rattle.msg_names.specs.Number.{imp_number};
 
-    /// What a lookup answers where no class of the chain has the method, as `_objc_msgForward` in
+    /// What a lookup returns if no class of the chain has the method, like `_objc_msgForward` in
     /// the runtime.
     pub const FORWARD: ImpRef = ImpRef { number: 0 };
 
-    /// The implementation of a number.
+    /// The implementation with a number.
     pub fn of(number: u32) -> ImpRef
         ensures { imp_number result ≡ number }
     {
@@ -64,7 +64,7 @@ impl ImpRef {
     }
 }
 
-/// A class, or its metaclass where `meta` is true. Classes are numbered from 0.
+/// A class, or its metaclass if `meta` is true. Classes are numbered from 0.
 #[derive(Clone, Copy, Debug, PartialEq, Eq)]
 pub struct ClassRef {
     pub class: u32,
@@ -75,7 +75,8 @@ impl ClassRef {
     ghost use Rattle.std.specs.Prelude.{◌≡◌};
     ghost use Rattle.msg_names.specs.ClassRef.{slot_of, above};
 
-    /// Its number among the class references in one line, each class and its metaclass after it.
+    /// Its index in the list of all class references, in which each class comes before its
+    /// metaclass.
     #[inline(always)]
     pub fn slot(self) -> usize
         ensures { result ≡ slot_of self }
@@ -83,7 +84,7 @@ impl ClassRef {
         2 * self.class as usize + usize::from(self.meta)
     }
 
-    /// Its superclass, where that of its class is given: for a metaclass the superclass's
+    /// Its superclass, given the superclass of its class. For a metaclass that is the superclass's
     /// metaclass, and for a root metaclass the root class itself (Objective-C Runtime Reference).
     #[inline(always)]
     pub fn above(self, superclass: Option<u32>) -> Option<ClassRef>
@@ -106,7 +107,7 @@ pub struct ObjectRef {
     pub object: u32,
 }
 
-/// What a message is sent to, what it takes and what it answers.
+/// A receiver, an argument or a result of a message.
 #[derive(Clone, Copy, Debug, Default, PartialEq, Eq)]
 pub enum Value {
     Number(i64),

@@ -24,7 +24,7 @@ up-listed (suc n) supers k q listed inside e = option_and_then_some (class_up n 
 
 -- ---- the classes of a chain
 
--- a class and those above it, by so many superclasses at most
+-- a class and those above it, by n superclasses at most
 abbrev chain : ℕ → List (Option ℕ) → ℕ → List ℕ
 chain zero supers k = k ∷ []
 chain (suc n) supers k = k ∷ option_map_or (chain n supers) (super_of supers k) []
@@ -69,7 +69,7 @@ none-equal k (x ∷ xs) e = at (eqb k x) refl e (none-equal k xs)
 
 -- ---- a chain that doesn't end
 
--- of so many superclasses some class stands above itself, or all differ
+-- among the first n superclasses some class is above itself, or all differ
 search : (n : ℕ) (supers : List (Option ℕ)) (k : ℕ) → depth_up n supers k ≡ n → StandsAboveItself supers ⊎ IsDistinct eqb (chain n supers k)
 unfolding IsDistinct
 search zero supers k whole = inr (IsDistinct-cons eqb k [] tt tt)

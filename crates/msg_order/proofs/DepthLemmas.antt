@@ -1,4 +1,4 @@
--- How many superclasses stand above a class.
+-- The number of superclasses above a class.
 use Rattle.std.proofs.Common.{◌≡◌, ◌<◌, ◌≤◌, ℕ, zero, suc, List, [], ◌∷◌, length, Option, Some, None, Bool, true, false, ◌||◌, slice_get, get_or, refl, sym, ap, ◌∙◌, zero-add, arith}
 use Rattle.std.specs.Prelude.{◌==◌}
 use Rattle.std.specs.List.{list_any, range_with_len}
@@ -28,7 +28,7 @@ in_range n i few = get_or-range_with_len 0 n i 0 few ∙ zero-add i
 
 -- ---- depths
 
--- no more are counted than may be
+-- no more superclasses are counted than the limit
 pub depth-most : (n : ℕ) (supers : List (Option ℕ)) (k : ℕ) → depth_up n supers k ≤ n
 depth-most zero supers k = omega arith
 depth-most (suc n) supers k = at (super_of supers k) (depth-most n supers)
@@ -37,7 +37,7 @@ depth-most (suc n) supers k = at (super_of supers k) (depth-most n supers)
     at None rest = omega arith
     at (Some d) rest = omega (arith, rest d)
 
--- in an order no more classes stand above a class than before it
+-- in an order no more classes are above a class than before it
 depth-place : (n : ℕ) (supers : List (Option ℕ)) (order : List ℕ) (place k : ℕ) → IsClassOrder supers order → slice_get order place ≡ Some k → depth_up n supers k ≤ place
 depth-place zero supers order place k is at = omega arith
 depth-place (suc n) supers order place k is at = up (super_of supers k) refl (λ p d e. depth-place n supers order p d is e)
@@ -67,9 +67,9 @@ ordered-ends supers order is =
     let less : depth_up n supers i < n = omega (arith, most, stands.before, is.count) in
     ap (λ j. depth_up n supers j == n) (in_range n i few) ∙ grind (arith, nat_tests, less))
 
--- ---- where every chain ends
+-- ---- if every chain ends
 
--- a depth that is less than may be counted stays where one more may be
+-- a depth that is less than the limit stays the same with a limit of one more
 depth-stays : (n : ℕ) (supers : List (Option ℕ)) (k : ℕ) → depth_up n supers k < n → depth_up (suc n) supers k ≡ depth_up n supers k
 depth-stays zero supers k few = absurd (omega (arith, few))
 depth-stays (suc n) supers k few = at (super_of supers k) few (λ d less. depth-stays n supers d less)
@@ -79,7 +79,7 @@ depth-stays (suc n) supers k few = at (super_of supers k) few (λ d less. depth-
     at None few rest = refl
     at (Some d) few rest = ap suc (rest d (omega (arith, few)))
 
--- then fewer superclasses stand above a class than there are classes
+-- then fewer superclasses are above a class than there are classes
 pub depth-fewer : (supers : List (Option ℕ)) (k : ℕ) → has_cycle supers ≡ false → k < length supers → depth_of supers k < length supers
 unfolding depth_of
 depth-fewer supers k none inside = at (depth_up (length supers) supers k == length supers) refl

@@ -1,4 +1,4 @@
--- Where every chain of superclasses ends, classes have an order.
+-- If every chain of superclasses ends, classes have an order.
 use Rattle.std.proofs.Common.{◌≡◌, ◌<◌, ◌≤◌, ℕ, zero, suc, List, [], ◌∷◌, ◌++◌, length, Option, Some, None, Bool, true, false, refl, sym, ◌∙◌, subst, arith}
 use Rattle.std.specs.Prelude.{slice_index_or, slice_set, replicate, IfSome}
 use Rattle.std.specs.Option.{option_map_or}
@@ -10,7 +10,7 @@ use Rattle.msg_order.specs.Superclasses.{super_of, AreListed, depth_up, depth_of
 use Rattle.msg_order.proofs.DepthLemmas.{depth-fewer}
 use Rattle.msg_order.proofs.PlacingLemmas.{placed-none, placed-more, order-whole}
 
--- classes that are placed, those that were and one more
+-- the classes that were placed, and one more
 record Places (supers : List (Option ℕ)) (old : List Bool) (k : ℕ) : Type 0 where
   pub marks : List Bool
   pub order : List ℕ
@@ -44,7 +44,7 @@ push supers marks order k are inside up = at (slice_index_or marks k false) refl
       marked = get_or-set_same marks k true false (omega (arith, inside, are.sizes));
     }
 
--- and one with those above it
+-- and a class with those above it
 place : (n : ℕ) (supers : List (Option ℕ)) (marks : List Bool) (order : List ℕ) (k : ℕ) → AreListed supers → ArePlaced supers marks order → k < length supers → depth_up n supers k < n → Places supers marks k
 place zero supers marks order k listed are inside few = absurd (omega (arith, few))
 place (suc n) supers marks order k listed are inside few = at (super_of supers k) refl few (λ d within less. place n supers marks order d listed are within less)
@@ -56,7 +56,7 @@ place (suc n) supers marks order k listed are inside few = at (super_of supers k
         let last = push supers first.marks first.order k first.are inside (subst (λ o. IfSome o (λ d. slice_index_or first.marks d false ≡ true)) (sym e) first.marked) in
         record { marks = last.marks; order = last.order; are = last.are; stays = λ j h. last.stays j (first.stays j h); marked = last.marked }
 
--- the first so many classes are placed
+-- the first n classes are placed
 record First (supers : List (Option ℕ)) (n : ℕ) : Type 0 where
   pub marks : List Bool
   pub order : List ℕ

@@ -7,7 +7,7 @@ use Rattle.std.proofs.lemmas.Option.{same_Some}
 use Rattle.msg_order.specs.Order.{StandsBefore, mark_count, ArePlaced, IsClassOrder}
 use Rattle.msg_order.specs.Superclasses.{super_of}
 
--- what stands in a list that grew by one at its end
+-- what is in a list that grew by one at its end
 pub pushed-get : (xs : List ℕ) (x i j : ℕ) → slice_get (xs ++ x ∷ []) i ≡ Some j → (slice_get xs i ≡ Some j) ⊎ ((i ≡ length xs) × (x ≡ j))
 pushed-get [] x zero j e = inr (refl, same_Some x j e)
 pushed-get [] x (suc i) j e = inl e

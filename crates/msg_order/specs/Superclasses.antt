@@ -11,13 +11,13 @@ super_of supers k = slice_index_or supers k None
 pub record AreListed (supers : List (Option ℕ)) : Type 0 where
   pub above : (k d : ℕ) → super_of supers k ≡ Some d → d < length supers
 
--- how many superclasses stand above a class, of which n at most are counted
+-- the number of superclasses above a class, of which at most n are counted
 abbrev pub depth_up : ℕ → List (Option ℕ) → ℕ → ℕ
 depth_up zero supers k = 0
 depth_up (suc n) supers k = option_map_or (λ d. suc (depth_up n supers d)) (super_of supers k) 0
 
--- How many superclasses stand above a class. A chain of superclasses that ends has fewer than there
--- are classes; of one that doesn't as many as there are classes are counted.
+-- The number of superclasses above a class. A chain of superclasses that ends has fewer than there
+-- are classes. On a chain that doesn't end, as many are counted as there are classes.
 unfoldable pub depth_of : List (Option ℕ) → ℕ → ℕ
 depth_of supers k = depth_up (length supers) supers k
 
@@ -25,12 +25,12 @@ depth_of supers k = depth_up (length supers) supers k
 unfoldable pub has_cycle : List (Option ℕ) → Bool
 has_cycle supers = list_any (λ k. depth_of supers k == length supers) (range_with_len 0 (length supers))
 
--- the class that stands so many superclasses above a class, if there is one
+-- the class that is a number of superclasses above a class, if there is one
 abbrev pub class_up : ℕ → List (Option ℕ) → ℕ → Option ℕ
 class_up zero supers k = Some k
 class_up (suc n) supers k = option_and_then (class_up n supers) (super_of supers k)
 
--- a class stands above itself, by one superclass or more
+-- a class is above itself, by one superclass or more
 pub record StandsAboveItself (supers : List (Option ℕ)) : Type 0 where
   pub class : ℕ
   pub superclasses : ℕ

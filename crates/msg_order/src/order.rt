@@ -6,7 +6,7 @@ ghost use Rattle.msg_order.specs.Superclasses.{AreListed, depth_up, has_cycle, s
 
 use std::alloc::{AllocError, Global};
 
-// Classes that were put in order so far, and which they are.
+// The classes that were put in order so far, and a mark for each class that was.
 #[derive(Drop)]
 struct Placing {
     order: Vec<u32>,
@@ -23,7 +23,7 @@ impl Placing {
         })
     }
 
-    // Puts a class at the end, unless it stands in the order.
+    // Puts a class at the end, unless it is in the order.
     fn push(&mut self, supers: &[Option<u32>], class: u32) -> Result<(), AllocError>
         requires class { class < length supers.now }
         requires placed { IsPlacing supers.now self.old }
@@ -39,8 +39,8 @@ impl Placing {
         Ok(())
     }
 
-    // Puts a class in the order, after those above it, of which there may be so many. It is false
-    // that it stands there where there are as many, or more.
+    // Puts a class in the order, after those above it. At most `room` classes may be above it.
+    // Returns false if more are.
     fn place(&mut self, supers: &[Option<u32>], class: u32, room: usize) -> Result<bool, AllocError>
         requires listed { AreListed supers.now }
         requires class { class < length supers.now }
@@ -63,10 +63,11 @@ impl Placing {
     }
 }
 
-/// The classes, each after its superclass, or nothing where a chain of superclasses doesn't end.
+/// Returns the classes, each after its superclass, or nothing if a chain of superclasses doesn't
+/// end.
 ///
-/// Takes time and memory in the order of their number, and a stack of as many small frames as
-/// superclasses stand above a class.
+/// It takes time and memory in proportion to the number of classes. The stack needs a small frame
+/// for each superclass above a class.
 pub fn class_order(alloc: Global, supers: &[Option<u32>]) -> Result<Option<Vec<u32>>, AllocError>
     requires few { length supers.now < 2 ^ 32 }
     requires listed { AreListed supers.now }

@@ -69,7 +69,7 @@ as_noted h n since slot sel short few e le is = (n.count, le, is.recalled slot s
 pub recalled_still : (h : History) (c : ClassRef) (since sel imp : ℕ) → IsAccepted h → last_affected h c ≤ since → IsRecalledSince h since (slot_of c) sel imp → imp ≡ lookup h c sel
 recalled_still h c since sel imp ok last (k, le, is) = is.found c refl ∙ stays-since h c sel k ok.origin ok.changes (omega arith) is.seen
 
--- what the lookup finds after so many changes may be noted at these
+-- what the lookup finds after this number of changes may be noted at these
 pub recalled_then : (h : History) (c : ClassRef) (n sel imp : ℕ) → n ≤ length h.changes → imp ≡ lookup (first n h) c sel → imp ≤ last_imp h.origin.counts → IsRecalled h n (slot_of c) sel imp
 recalled_then h c n sel imp le found listed = record {
   seen = le;
@@ -81,7 +81,7 @@ first_same : (h : History) (origin : OriginView) (more : List (List Change)) (n 
     → first n (record { origin = origin; changes = h.changes ++ more }) ≡ first n h
 first_same h origin more n le same = rw (same, take-append-le n h.changes more le) refl
 
--- the points at which notes stand are the same in a longer history
+-- the points of notes are the same in a longer history
 pub first-begins : (p h : History) (n : ℕ) → BeginsWith p h → n ≤ length h.changes → first n p ≡ first n h
 first-begins p h n b le = ap (λ cs. first n (record { origin = p.origin; changes = cs })) b.rest.1 ∙ first_same h p.origin b.rest.0 n le b.same
 

@@ -49,7 +49,7 @@ pub found_whole : (h : History) (ks : List Lookup) (imps : List ℕ) (place : �
 found_whole h ks imps place same all so =
     sym (take_all place imps (omega (arith, same, all))) ∙ so ∙ ap (map (found_of h)) (take_all place ks all)
 
--- after so many changes that are seen then is at one history
+-- after this number of changes that are seen then is at one history
 pub found_together : (v w : SenderView) (ks : List Lookup) (imps : List ℕ) (n : ℕ) → BeginsWith w.front v.front → AreFoundAfter v w ks imps n → AreFoundTogether v w ks imps
 found_together v w ks imps n b are = (first n w.front, begins_first w.front v.front n b are.since, first_begins n w.front, are.found)
 
@@ -80,7 +80,7 @@ module _ (n : Notes) (ks : List Lookup) (k : Lookup) (count : ℕ) (v u w : Send
   lack_before : LackOne n ks v u → LackOne n ks v w
   lack_before (j, is, (since, loaded, why)) = (j, is, (since, among_before j.class since v u w loaded next, why))
 
-  -- one lookup more, which finds something or nothing
+  -- one more lookup, which finds something or nothing
   pub stay_next : (m m' : Notes) (found : Option ImpRef) → StayUnlessLacking n ks v u m → (IsSome found × (m' ≡ m)) ⊎ LacksIt m count k u w → StayUnlessLacking n ks v w m'
   stay_next m m' found (inl same) (inl (is, kept)) = inl (kept ∙ same)
   stay_next m m' found (inl same) (inr lacks) = inr (lack_later m same lacks)
@@ -118,7 +118,7 @@ put_elsewhere imps place other i j apart is =
     slice_get-get_or imps other 0 within
     ∙ ap (λ (n : ℕ). Some n) (sym (get_or-set_other imps place other i 0 apart) ∙ get_or_from_slice_get (slice_set imps place i) other j 0 is)
 
--- one lookup more is noted
+-- one more lookup is noted
 pub noted_next : (was is : Lookup → ℕ → Type 0) (ks : List Lookup) (imps : List ℕ) (place : ℕ) (k : Lookup) (i : ℕ) → slice_get ks place ≡ Some k → is k i
     → ((j : Lookup) (x : ℕ) → lies_at j ≢ lies_at k → was j x → is j x) → IsOfLast place was ks imps → IsOfLast (place + 1) is ks (slice_set imps place i)
 noted_next was is ks imps place k i at one on all p j x lt here has last = split (eq-or-lt_of_le (omega (arith, lt)))

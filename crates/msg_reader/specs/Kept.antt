@@ -18,7 +18,7 @@ use Rattle.msg_reader.specs.declared.notes.Notes.{Notes}
 abbrev pub HaveOthersOf : ClassRef → ℕ → Notes → Notes → Type 0
 HaveOthersOf c sel old new = (place : ℕ) → place ≢ place_of (slot_of c) sel → slice_get new.notes place ≡ slice_get old.notes place
 
--- the same of a selector itself
+-- the same for a selector of the program
 abbrev pub KeepOthers : Notes → Notes → ClassRef → Selector → Type 0
 KeepOthers old new c s = HaveOthersOf c (selector_number s) old new
 
@@ -42,7 +42,7 @@ HasLoaded c n w = (before : List (ClassRef × ℕ)) × (w.stamps ≡ (c, n) ∷ 
 
 -- ---- what is recalled
 
--- a stamp is loaded, and what the notes have since then is the answer
+-- a stamp is loaded, and what the notes have since then is the result
 abbrev pub RecallsSince : Notes → ClassRef → ℕ → SenderView → SenderView → Option ℕ → Type 0
 RecallsSince n c sel v w found = (since : ℕ) × LoadsStamp c since v w × (found ≡ recalled n since (slot_of c) sel)
 
@@ -56,11 +56,11 @@ FindsRecalled was is c sel v w found =
 abbrev pub HaveNotedSince : Notes → ClassRef → ℕ → SenderView → ℕ → Type 0
 HaveNotedSince n c sel w i = (since : ℕ) × HasLoaded c since w × (recalled n since (slot_of c) sel ≡ Some i)
 
--- so it is where the slot is below 2^26
+-- the same, if the slot is below 2^26
 abbrev pub IsNotedSince : Notes → ClassRef → ℕ → SenderView → ℕ → Type 0
 IsNotedSince n c sel w i = (since : ℕ) × HasLoaded c since w × (slot_of c < 2 ^ 26 → recalled n since (slot_of c) sel ≡ Some i)
 
--- the same of a selector and an implementation
+-- the same for a selector and an implementation
 abbrev pub IsNotedFound : Notes → ClassRef → Selector → SenderView → ImpRef → Type 0
 IsNotedFound n c s w i = IsNotedSince n c (selector_number s) w (imp_number i)
 
@@ -69,7 +69,7 @@ IsNotedFound n c s w i = IsNotedSince n c (selector_number s) w (imp_number i)
 abbrev pub MissesAfter : ArenaView → ClassRef → ℕ → ℕ → SenderView → Type 0
 MissesAfter a c sel count w = ((w.last.class ≡ c) × (w.last.sel ≡ sel) × Misses (layout a) w.last) ⊎ ((n : ℕ) × HasLoaded c n w × (count < n))
 
--- so it is after the changes that the sender had seen
+-- the same after the changes that the sender had seen
 abbrev pub MissesUnlessChanged : ArenaView → ClassRef → ℕ → SenderView → SenderView → Type 0
 MissesUnlessChanged a c sel v w = MissesAfter a c sel (length v.front.changes) w
 

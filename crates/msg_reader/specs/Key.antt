@@ -1,8 +1,8 @@
 -- The key of a lookup, and the seal of a note: the key and what the lookup found, as one word.
 use Rattle.std.specs.Prelude.{◌≡◌, ◌≢◌, ◌<◌, ◌+◌, ◌*◌, ◌/◌, ◌%◌, ◌^◌, ◌==◌, ℕ, if◌then◌else◌, nat_lt}
 
--- The key of a lookup: one to one, where the slot is below 2^26 and the selector takes 32 bits. Its
--- low 16 bits are 16 times the place of its note.
+-- The key of a lookup. Keys are one to one if the slot is below 2^26 and the selector takes 32
+-- bits. The low 16 bits of a key are 16 times the place of its note.
 abbrev pub key_of : ℕ → ℕ → ℕ
 key_of slot sel = (slot + 1) * 68719499920 + sel * 16
 
@@ -10,8 +10,8 @@ key_of slot sel = (slot + 1) * 68719499920 + sel * 16
 abbrev pub place_of : ℕ → ℕ → ℕ
 place_of slot sel = key_of slot sel / 16 % 4096
 
--- what a seal says of an implementation: its number, where that takes 16 bits at most and is below
--- 65,534; 65,534 of a longer one; and 65,535 of none
+-- the mark of an implementation in a seal: its number, if that takes at most 16 bits and is below
+-- 65,534; 65,534 for a longer one; and 65,535 for none
 abbrev pub mark_of : ℕ → ℕ
 mark_of imp = if imp == 0 then 65535 else if nat_lt imp 65534 then imp else 65534
 

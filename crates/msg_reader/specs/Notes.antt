@@ -32,7 +32,7 @@ pub record IsNoteOf (h : History) (n : Note) : Type 0 where
 abbrev pub LiesAt : ℕ → Note → Type 0
 LiesAt place n = n.seal ≢ 0 → (n.seal + mark_of n.imp) % 65536 ≡ place * 16
 
--- each of the notes is, and lies at its place
+-- each of the notes is a note of the history, and lies at its place
 pub record AreNotesOf (h : History) (n : Notes) : Type 0 where
   pub notes : All (IsNoteOf h) n.notes
   pub placed : (p : ℕ) (d : Note) → p < length n.notes → LiesAt p (get_or n.notes p d)
@@ -47,14 +47,14 @@ pub record IsBlank (n : Note) : Type 0 where
 pub record AreBlank (n : Notes) : Type 0 where
   pub notes : All IsBlank n.notes
 
--- A note says where the stamp of the class reference that it is of lies: so many bytes after the
--- first word of the table. Whatever it is of, a word of the table lies there.
+-- A note says where the stamp of the class reference that it is of lies: this number of bytes after
+-- the first word of the table. Whatever it is of, a word of the table lies there.
 pub record IsStamped (z : Layout) (n : Note) : Type 0 where
   pub tells : (c : ClassRef) (sel : ℕ) → sel < 2 ^ 32 → IsSealOf n.seal (slot_of c) sel n.imp → n.stamp ≡ 8 * stamp_at z c
   pub whole : n.stamp % 8 ≡ 0
   pub within : n.stamp < 8 * word_count z
 
--- so it is of each note
+-- the same for each note
 abbrev pub AreStamped : Layout → Notes → Type 0
 AreStamped z n = All (IsStamped z) n.notes
 
@@ -62,13 +62,12 @@ AreStamped z n = All (IsStamped z) n.notes
 abbrev pub StayStamped : Layout → Notes → Notes → Type 0
 StayStamped z old new = AreStamped z old → AreStamped z new
 
--- what a note has of a lookup after so many changes or more: the implementation's number, 0 where
--- it found no method
+-- what a note has of a lookup after this number of changes or more: the implementation's number, 0
+-- where it found no method
 abbrev pub found_by : Note → ℕ → ℕ → ℕ → Option ℕ
 found_by n since slot sel = if n.seal + mark_of n.imp == key_of slot sel && nat_le since n.count then Some n.imp else None
 
--- what notes have of a lookup: that which stands at its place. Of slots from 2^26 on nothing is
--- noted.
+-- what notes have of a lookup: that which is at its place. Of slots from 2^26 on nothing is noted.
 abbrev pub recalled : Notes → ℕ → ℕ → ℕ → Option ℕ
 recalled n since slot sel = if nat_lt slot (2 ^ 26) then option_and_then (λ k. found_by k since slot sel) (slice_get n.notes (place_of slot sel)) else None
 
@@ -80,13 +79,13 @@ noted_at n h c sel = recalled n (length h.changes) (slot_of c) sel
 abbrev pub HaveNoted : Notes → History → ClassRef → ℕ → ℕ → Type 0
 HaveNoted n h c sel imp = noted_at n h c sel ≡ Some imp
 
--- so it is where the slot is below 2^26
+-- the same, if the slot is below 2^26
 abbrev pub IsNoted : History → Notes → ClassRef → ℕ → ℕ → Type 0
 IsNoted h n c sel imp = slot_of c < 2 ^ 26 → HaveNoted n h c sel imp
 
 -- ---- what notes say
 
--- no two lookups of slots and selectors in 32 bits have one key
+-- no two lookups of slots and selectors in 32 bits have the same key
 abbrev pub KeysAreOneToOne : Type 0
 KeysAreOneToOne = (slot sel other next : ℕ) → sel < 2 ^ 32 → next < 2 ^ 32 → key_of slot sel ≡ key_of other next → (slot ≡ other) × (sel ≡ next)
 
@@ -95,11 +94,12 @@ KeysAreOneToOne = (slot sel other next : ℕ) → sel < 2 ^ 32 → next < 2 ^ 32
 abbrev pub SealTells : Note → ℕ → ℕ → Type 0
 SealTells n slot sel = (said : ℕ) → 0 < said → said < 65536 → n.seal + said ≡ key_of slot sel → IsSealOf n.seal slot sel n.imp × (said ≡ mark_of n.imp)
 
--- of whatever history these are notes, each seal tells of the lookups that have its place
+-- whatever history these are notes of, each seal identifies the lookups that have its place
 abbrev pub SealsTell : Type 0
 SealsTell = (h : History) (n : Notes) (slot sel : ℕ) (k : Note) → AreNotesOf h n → slice_get n.notes (place_of slot sel) ≡ Some k → SealTells k slot sel
 
--- at some point of the history, after so many changes or more, the lookup found this implementation
+-- at some point of the history, after this number of changes or more, the lookup found this
+-- implementation
 abbrev pub IsRecalledSince : History → ℕ → ℕ → ℕ → ℕ → Type 0
 IsRecalledSince h since slot sel imp = (k : ℕ) × (since ≤ k) × IsRecalled h k slot sel imp
 
@@ -116,8 +116,8 @@ Tell n since slot sel i = (h : History) → AreNotesOf h n → IsRecalledSince h
 abbrev pub TellFound : Notes → ℕ → ClassRef → Selector → ImpRef → Type 0
 TellFound n since c s i = (h : History) → AreNotesOf h n → IsAccepted h → last_affected h c ≤ since → IsFoundAt h c s i × IsListed h i
 
--- of each history where the lookup finds this implementation after the first so many changes, what
--- were notes still are
+-- of each history where the lookup finds this implementation after the first changes, as many as
+-- given, what were notes still are
 abbrev pub StayNotes : Notes → Notes → ℕ → ClassRef → Selector → ImpRef → Type 0
 StayNotes old new count c s i = (h : History) → AreNotesOf h old → count ≤ length h.changes → IsFoundAt (first count h) c s i → IsListed h i → AreNotesOf h new
 
@@ -125,11 +125,11 @@ StayNotes old new count c s i = (h : History) → AreNotesOf h old → count ≤
 abbrev pub recalled_of : Notes → ℕ → ClassRef → Selector → Option ℕ
 recalled_of n since c s = recalled n since (slot_of c) (selector_number s)
 
--- they have this implementation of it, where the slot is below 2^26
+-- they have this implementation of it, if the slot is below 2^26
 abbrev pub HaveKept : Notes → ℕ → ClassRef → Selector → ImpRef → Type 0
 HaveKept n since c s i = slot_of c < 2 ^ 26 → recalled_of n since c s ≡ Some (imp_number i)
 
--- it is noted after so many changes: since as many, or fewer
+-- it is noted after this number of changes: since as many, or fewer
 abbrev pub IsKeptAt : ℕ → Notes → ClassRef → Selector → ImpRef → Type 0
 IsKeptAt count n c s i = (since : ℕ) → since ≤ count → HaveKept n since c s i
 
@@ -137,6 +137,6 @@ IsKeptAt count n c s i = (since : ℕ) → since ≤ count → HaveKept n since 
 abbrev pub HaveNotedFor : Notes → History → ClassRef → Selector → ImpRef → Type 0
 HaveNotedFor n h c s i = HaveNoted n h c (selector_number s) (imp_number i)
 
--- so it is where the slot is below 2^26
+-- the same, if the slot is below 2^26
 abbrev pub IsNotedFor : History → Notes → ClassRef → Selector → ImpRef → Type 0
 IsNotedFor h n c s i = IsNoted h n c (selector_number s) (imp_number i)

@@ -34,7 +34,8 @@ pub record AreFoundAfter (v w : SenderView) (ks : List Lookup) (imps : List ℕ)
   pub seen : n ≤ length w.front.changes
   pub found : AreFoundAt (first n w.front) ks imps
 
--- so they are at one history: no older than what it had seen, and it has seen that then
+-- so they are at one history, which is no older than what the sender had seen, and the sender has
+-- then seen it
 abbrev pub AreFoundTogether : SenderView → SenderView → List Lookup → List ℕ → Type 0
 AreFoundTogether v w ks imps = (h : History) × BeginsWith h v.front × BeginsWith w.front h × AreFoundAt h ks imps
 
@@ -52,12 +53,12 @@ IsAmong ks k = (place : ℕ) × (slice_get ks place ≡ Some k)
 abbrev pub LoadsAmong : ClassRef → ℕ → SenderView → SenderView → Type 0
 LoadsAmong c n v w = (more : List (ClassRef × ℕ)) × (before : List (ClassRef × ℕ)) × (w.stamps ≡ more ++ ((c, n) ∷ (before ++ v.stamps)))
 
--- the stamp that was loaded for a lookup says more than so many changes, or the notes have nothing
--- of it since then
+-- the stamp that was loaded for a lookup says more than this number of changes, or the notes have
+-- nothing of it since then
 abbrev pub LacksIt : Notes → ℕ → Lookup → SenderView → SenderView → Type 0
 LacksIt n count k v w = (since : ℕ) × LoadsAmong k.class since v w × ((count < since) ⊎ (recalled_of n since k.class k.sel ≡ None))
 
--- so it is of one of the lookups, and of the changes that the sender had seen
+-- the same for one of the lookups, and for the changes that the sender had seen
 abbrev pub LackOne : Notes → List Lookup → SenderView → SenderView → Type 0
 LackOne n ks v w = (k : Lookup) × IsAmong ks k × LacksIt n (length v.front.changes) k v w
 
@@ -89,7 +90,7 @@ IsNotedOrAt h n v w k i = IsNotedAmong n v w k i ⊎ IsNoted h n k.class (select
 abbrev pub IsLastThere : ℕ → List Lookup → ℕ → Lookup → Type 0
 IsLastThere m ks place k = (later : ℕ) (j : Lookup) → place < later → later < m → slice_get ks later ≡ Some j → lies_at k ≢ lies_at j
 
--- so it is of each of the first m lookups and what it found, unless a later one lies there
+-- the same for each of the first m lookups and what it found, unless a later one lies there
 abbrev pub IsOfLast : ℕ → (Lookup → ℕ → Type 0) → List Lookup → List ℕ → Type 0
 IsOfLast m is_so ks imps = (place : ℕ) (k : Lookup) (i : ℕ) → place < m → slice_get ks place ≡ Some k → slice_get imps place ≡ Some i → IsLastThere m ks place k → is_so k i
 
@@ -97,6 +98,6 @@ IsOfLast m is_so ks imps = (place : ℕ) (k : Lookup) (i : ℕ) → place < m �
 abbrev pub AreNoted : Notes → SenderView → SenderView → List Lookup → List ℕ → Type 0
 AreNoted n v w ks imps = IsOfLast (length ks) (IsNotedAmong n v w) ks imps
 
--- so it is where they were answered at this history
+-- the same, if they were answered at this history
 abbrev pub AreNotedOrAt : History → Notes → SenderView → SenderView → List Lookup → List ℕ → Type 0
 AreNotedOrAt h n v w ks imps = IsOfLast (length ks) (IsNotedOrAt h n v w) ks imps

@@ -19,7 +19,8 @@ pub fn blank_notes_are_of_each_history()
     ensures { (h : History) (n : Notes) → AreBlank n → AreNotesOf h n }
 {}
 
-/// Blank notes say where stamps lie as notes of any table do: they are of no class reference.
+/// Blank notes satisfy what notes of any table say of where stamps lie: they are of no class
+/// reference.
 #[tactic(auto, using(crate::proofs::StampedLemmas::blank_stamped))]
 pub fn blank_notes_are_of_each_table()
     ensures { (z : Layout) (n : Notes) → AreBlank n → AreStamped z n }
@@ -31,22 +32,22 @@ pub fn a_history_no_longer_is_the_same()
     ensures { (p h : History) → BeginsWith p h → length p.changes ≡ length h.changes → p ≡ h }
 {}
 
-/// The slot of a class reference is below 2^26, where there are at most so many classes; then what
-/// is noted of it is recalled.
+/// If there are at most as many classes as the limit, the slot of a class reference is below 2^26.
+/// Then what is noted of it is recalled.
 #[tactic(auto, using(crate::proofs::NoteLemmas::short_slot))]
 pub fn a_slot_of_few_classes_is_short()
     ensures { (c : ClassRef) → c.class < 2 ^ 25 → slot_of c < 2 ^ 26 }
 {}
 
-/// No two lookups have one key.
+/// No two lookups have the same key.
 #[tactic(auto, using(crate::proofs::KeyLemmas::keys_differ))]
 pub fn keys_are_one_to_one()
     ensures { KeysAreOneToOne }
 {}
 
-/// The seal of a note tells of which lookup it is and what that found, of those that have its
-/// place: a host that loads it once, takes it from the key of its lookup and has 1 to 65,535 has
-/// the mark of what was found. So one load tells what `Notes::recall_method` does.
+/// Among the lookups that share its place, the seal of a note says which one it is of and what that
+/// found. A host loads the seal once and subtracts it from the key of its lookup. A result from 1
+/// to 65,535 is the mark of what was found. So one load gives what `Notes::recall_method` returns.
 #[tactic(auto, using(crate::proofs::KeyLemmas::seals_tell))]
 pub fn a_seal_says_key_and_number()
     ensures { SealsTell }

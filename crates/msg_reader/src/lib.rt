@@ -1,4 +1,4 @@
-//! What a sender reads without a lock: its own notes, then the caches that all senders share.
+//! What a sender reads without a lock: first its own notes, then the caches that all senders share.
 #![tactic(auto)]
 
 pub mod laws;

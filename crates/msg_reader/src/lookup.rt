@@ -1,8 +1,8 @@
-//! What is looked up, as one of several.
+//! Lookups in a list.
 
 use msg_names::{ClassRef, Selector};
 
-/// A lookup: of a selector by a class reference.
+/// A lookup of a selector from a class reference.
 #[derive(Clone, Copy)]
 pub struct Lookup {
     pub class: ClassRef,

@@ -3,25 +3,25 @@
 ghost use Rattle.std.specs.Prelude.{◌≡◌, ◌+◌, ◌<◌, ◌≤◌, ◌^◌};
 ghost use Rattle.msg_reader.specs.Key.{IsSealed, key_of, mark_of, place_of};
 
-// How many notes there are: a power of two, by which a key's low bits say where its note lies.
+// The number of notes. It is a power of two, so the low bits of a key give the place of its note.
 pub(crate) const PLACES: usize = 4096;
 
-// How far the keys of two slots are apart: more than those of all selectors take, 2^36, and 1,449
-// notes on. So the notes of a class and of those numbered next lie far from each other: a
-// multiplicative hash of the slot, as Knuth's (The Art of Computer Programming, 6.4).
+// The distance between the keys of two slots: more than the 2^36 keys of all selectors, and 1,449
+// notes on. So the notes of a class and of those with the next numbers lie far from each other.
+// This is a multiplicative hash of the slot, like Knuth's (The Art of Computer Programming, 6.4).
 const APART: u64 = 68_719_499_920;
 
-// What a mark says where the implementation's number takes more than 16 bits, and where there is no
-// method.
+// The marks for an implementation whose number takes more than 16 bits, and for no method.
 const LONG: u32 = 65_534;
 
 const NO_METHOD: u64 = 65_535;
 
-// What a lookup found, and how many changes there were. `seal` is the key of a class reference's
-// slot and a selector, less the mark of what was found: so a host in C has both by one load, and no
-// handler of a signal comes between them. Blank, it is 0, which is nobody's. `stamp` is how many
-// bytes after the first of the words that threads share the stamp of its class reference lies.
-// Blank, it is 0: there the count of changes lies, and whatever that says, the seal is nobody's.
+// What a lookup found, and the number of changes at that time. `seal` is the key of a class
+// reference's slot and a selector, minus the mark of what was found. So a host in C gets both by
+// one load, and no signal handler comes between them. In a blank note it is 0, which belongs to no
+// lookup. `stamp` is the distance in bytes from the first of the words that threads share to the
+// stamp of the class reference. In a blank note it is 0. The count of changes lies there, and
+// whatever that says, the seal belongs to no lookup.
 #[repr(C)]
 #[derive(Clone, Copy)]
 pub(crate) struct Note {
@@ -33,8 +33,8 @@ pub(crate) struct Note {
     ghost sealed: { IsSealed seal imp },
 }
 
-// The key of a slot and a selector. Its low 16 bits are 16 times the place of its note.
-// It is above each mark, so no key is a blank note's.
+// The key of a slot and a selector. Its low 16 bits are 16 times the place of its note. It is above
+// each mark, so no key belongs to a blank note.
 #[inline(always)]
 fn key(slot: usize, sel: u32) -> u64
     requires { slot < 2 ^ 26 }
@@ -44,8 +44,8 @@ fn key(slot: usize, sel: u32) -> u64
     (slot as u64 + 1) * APART + u64::from(sel) * 16
 }
 
-// The one place at which it may be. Selectors of one class whose numbers are near have places of
-// their own.
+// The only place where the note may be. Selectors of one class with near numbers have different
+// places.
 #[inline(always)]
 pub(crate) fn place(slot: usize, sel: u32) -> usize
     requires { slot < 2 ^ 26 }
@@ -55,7 +55,7 @@ pub(crate) fn place(slot: usize, sel: u32) -> usize
     (key(slot, sel) / 16) as usize % PLACES
 }
 
-// What a seal says of an implementation.
+// The mark of an implementation in a seal.
 #[inline(always)]
 fn mark(imp: u32) -> u64
     ensures mark { result ≡ mark_of imp }
@@ -82,7 +82,7 @@ impl Note {
         stamp: 0,
     };
 
-    // Whether it is blank.
+    // Whether the note is blank.
     #[inline(always)]
     pub(crate) fn is_blank(&self) -> bool
         ensures blank { result ≡ true → IsBlank self.now }
@@ -90,7 +90,7 @@ impl Note {
         self.seal == 0 && self.imp == 0 && self.stamp == 0
     }
 
-    // Whether it is of this lookup.
+    // Whether the note is of this lookup.
     #[inline(always)]
     fn is_of(&self, slot: usize, sel: u32) -> bool
         requires slot { slot < 2 ^ 26 }
@@ -100,8 +100,8 @@ impl Note {
         self.seal + mark(self.imp) == key(slot, sel)
     }
 
-    // The implementation's number, where this is a note of that lookup after so many changes or
-    // more; 0 where that found no method.
+    // The implementation's number, if this is a note of that lookup after at least this number of
+    // changes; 0 if the lookup found no method.
     #[inline(always)]
     pub(crate) fn answer(&self, since: u64, slot: usize, sel: u32) -> Option<u32>
         requires slot { slot < 2 ^ 26 }
@@ -116,7 +116,7 @@ impl Note {
         }
     }
 
-    // A note of a lookup after so many changes, which says where the stamp lies.
+    // Makes the note of a lookup after a number of changes. It says where the stamp lies.
     #[inline(always)]
     pub(crate) fn of(count: u64, slot: usize, sel: u32, imp: u32, stamp: u64) -> Note
         requires slot { slot < 2 ^ 26 }

@@ -1,5 +1,5 @@
-//! What a sender notes of its lookups. No thread but its own sees it, and no call here takes a lock
-//! or reads a shared word.
+//! The notes that a sender keeps of its lookups. Only its own thread sees them, and no call here
+//! takes a lock or reads a shared word.
 
 ghost use Rattle.std.specs.Prelude.{◌≡◌, ◌<◌, ◌≤◌, ℕ, option_map, IfSome, None};
 ghost use Rattle.msg_names.specs.Number.{imp_number};
@@ -13,11 +13,11 @@ use crate::note::{Note, PLACES, place};
 use msg_cache::Arena;
 use msg_names::{ClassRef, ImpRef, Selector};
 
-// Of slots from here on nothing is noted. No arena has a word for one.
+// Nothing is noted of slots from this one on. No arena has a word for one.
 const SLOTS: usize = 67_108_864;
 
-/// What a sender notes of its lookups, at one of 4,096 places for each class reference and
-/// selector. In C it is so many notes of 32 bytes, and zero bytes are a blank one.
+/// The notes that a sender keeps of its lookups. Each class reference and selector has one of 4,096
+/// places. In C they are as many notes of 32 bytes, and a note of zero bytes is blank.
 #[repr(C)]
 #[derive(Drop)]
 pub struct Notes {
@@ -25,7 +25,7 @@ pub struct Notes {
 }
 
 impl Notes {
-    /// Nothing is noted.
+    /// Makes blank notes.
     pub const fn new() -> Notes
         ensures blank { AreBlank result }
         ensures notes { (h : History) → AreNotesOf h result }
@@ -35,7 +35,7 @@ impl Notes {
         }
     }
 
-    /// Then nothing is noted. Only notes that aren't blank are written, so memory that no note was
+    /// Makes all notes blank. Only notes that aren't blank are written, so memory that no note was
     /// written to stays untouched.
     pub fn clear(&mut self)
         ensures { AreBlank self.new }
@@ -47,8 +47,8 @@ impl Notes {
         }
     }
 
-    /// The implementation that a lookup found after so many changes or more, where it is noted: it
-    /// finds that still, where no later change affects the class reference.
+    /// Returns the implementation that a lookup found after at least this number of changes, if it
+    /// is noted. If no later change affects the class reference, the lookup still finds it.
     #[inline]
     pub fn recall(&self, since: u64, class: ClassRef, sel: Selector) -> Option<ImpRef>
         ensures found { IfSome result (TellFound self.now since class sel) }
@@ -60,8 +60,8 @@ impl Notes {
         }
     }
 
-    /// As `recall`, in numbers: of the slot of a class reference and a selector's number the number
-    /// of the implementation, 0 for forwarding.
+    /// Does the same as `recall`, in numbers: given the slot of a class reference and a selector's
+    /// number, it returns the number of the implementation, or 0 for forwarding.
     #[inline]
     pub fn recall_method(&self, since: u64, slot: usize, sel: u32) -> Option<u32>
         ensures found { IfSome result (Tell self.now since slot sel) }
@@ -74,7 +74,7 @@ impl Notes {
         self.recall_named(since, slot, sel)
     }
 
-    // The same of a selector's number, which isn't 0.
+    // Does the same for a selector's number that isn't 0.
     #[inline(always)]
     fn recall_named(&self, since: u64, slot: usize, sel: u32) -> Option<u32>
         requires { 0 < sel }
@@ -88,9 +88,9 @@ impl Notes {
         }
     }
 
-    /// Notes what a lookup found after so many changes, and where the stamp of its class reference
-    /// lies, and forgets no note but the one at its place. Of a class reference whose slot is 2^26
-    /// or more, which no arena has a word for, it notes nothing.
+    /// Notes what a lookup found after a number of changes, and where the stamp of its class
+    /// reference lies. It forgets only the note that was at its place. It notes nothing of a class
+    /// reference whose slot is 2^26 or more, for which no arena has a word.
     #[inline]
     pub fn keep(&mut self, arena: &Arena, count: u64, class: ClassRef, sel: Selector, imp: ImpRef)
         requires { class.class < classes arena.now }

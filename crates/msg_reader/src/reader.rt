@@ -1,11 +1,12 @@
-//! The sender's protocol: load the stamp, recall; else probe, load the stamp again, and note.
+//! The sender's protocol: load the stamp and recall; else probe, load the stamp again, and note.
 //!
-//! A lookup is answered from the notes where it was noted after as many changes as the stamp of its
-//! class reference says, or more: since then no change has affected that, so it is the lookup now.
-//! What the notes lack is probed for. A hit is right at some moment between the load of the count
-//! of changes before it and that of the stamp after it; where the stamp isn't above that count, no
-//! change in between affects the class reference, so the hit is right at both, and is noted at that
-//! count. No lock is taken: what a cache lacks is the runtime's to answer.
+//! A lookup is answered from the notes if it was noted after at least as many changes as the stamp
+//! of its class reference says. No change has affected the class reference since then, so the note
+//! is still right. A lookup that isn't in the notes is probed for. A hit is right at some moment
+//! between the load of the count of changes before it and the load of the stamp after it. If the
+//! stamp isn't above that count, no change in between affects the class reference. Then the hit is
+//! right at both moments, and is noted at that count. No lock is taken: the runtime answers what a
+//! cache lacks.
 
 ghost use Rattle.std.specs.Prelude.{◌≡◌, ◌<◌, ◌≤◌, ◌+◌, length, option_map, IfSome, IfNone};
 ghost use Rattle.msg_tables.specs.History.{BeginsWith};
@@ -28,8 +29,8 @@ use msg_names::{ClassRef, ImpRef, Selector};
 use msg_tables::laws::a_found_implementation_is_listed;
 use std::marker::Model;
 
-/// Reads without a lock. It carries what it has seen of the history, and never answers from before
-/// that.
+/// Reads without a lock. It remembers what it has seen of the history, and never answers from an
+/// earlier point.
 #[derive(Drop)]
 pub struct Reader {
     prober: Prober,
@@ -49,28 +50,29 @@ impl Model for Reader {
 }
 
 impl Reader {
-    /// A reader that has seen what its prober has.
+    /// Makes a reader that has seen what its prober has.
     pub fn new(prober: Prober) -> Reader
         ensures { result ≡ prober }
     {
         Reader { prober }
     }
 
-    /// What probes, for the keeper to take back.
+    /// Returns the prober, for the keeper to take back.
     pub fn into_prober(self) -> Prober
         ensures { result ≡ self }
     {
         self.prober
     }
 
-    /// Its sender's number.
+    /// The number of its sender.
     pub fn number(&self) -> u32
         ensures { result ≡ self.now.sender.number }
     {
         self.prober.number()
     }
 
-    /// Has then seen all that the keeper has, as the keeper's `renew`.
+    /// Brings the reader up to date, like the keeper's `renew`: it has then seen all that the
+    /// keeper has.
     pub fn renew(&mut self, arena: &Arena, keeper: &mut Keeper)
         requires keeper { IsOf arena.now keeper.old }
         requires reader { IsSenderOf arena.now self.old }
@@ -85,8 +87,8 @@ impl Reader {
         keeper.renew(arena, &mut self.prober);
     }
 
-    /// `cache_getImp`: the implementation that the cache of a class reference has, which is the
-    /// lookup's at what the reader has then seen. The notes aren't asked.
+    /// `cache_getImp`: the implementation that the cache of a class reference has. The lookup finds
+    /// it at what the reader has then seen. The notes aren't used.
     #[inline]
     pub fn probe(&mut self, arena: &Arena, class: ClassRef, sel: Selector) -> Option<ImpRef>
         requires reader { IsSenderOf arena.now self.old }
@@ -99,8 +101,8 @@ impl Reader {
         self.prober.probe(arena, class, sel)
     }
 
-    /// How many changes there are, which the reader has then seen: nothing older is answered from
-    /// then on. One shared word is loaded.
+    /// The number of changes, which the reader has then seen: from then on it answers from no
+    /// earlier point. It loads one shared word.
     #[inline]
     pub fn refresh(&mut self, arena: &Arena) -> u64
         requires reader { IsSenderOf arena.now self.old }
@@ -114,8 +116,8 @@ impl Reader {
         self.prober.published(arena)
     }
 
-    /// The stamp of a class reference: no change after so many has affected it. The reader has then
-    /// seen all changes. One shared word is loaded.
+    /// The stamp of a class reference: no change after that many has affected it. The reader has
+    /// then seen all changes. It loads one shared word.
     #[inline(always)]
     pub fn stamp(&mut self, arena: &Arena, class: ClassRef) -> u64
         requires reader { IsSenderOf arena.now self.old }
@@ -129,9 +131,9 @@ impl Reader {
         self.prober.stamp(arena, class)
     }
 
-    /// What the notes have of a lookup at all changes, which the reader has then seen: what was
-    /// noted since the stamp of the class reference. That is loaded, and no other word that threads
-    /// share.
+    /// Returns what was noted of a lookup since the stamp of the class reference. The lookup finds
+    /// it at all changes, which the reader has then seen. The stamp is the only shared word that it
+    /// loads.
     #[inline]
     pub fn recall(
         &mut self,
@@ -156,12 +158,12 @@ impl Reader {
         notes.recall(since, class, sel)
     }
 
-    /// The implementation that the notes have, or else that the cache has, and then the notes too:
-    /// what a lookup finds at what the reader has then seen, all changes. Where a change that
-    /// affects the class reference falls into a probe that hits, its answer is left. A class
-    /// reference that is closed isn't probed.
+    /// Returns the implementation from the notes, or else from the cache, which it then notes. A
+    /// lookup finds it at all changes, which the reader has then seen. If a change that affects the
+    /// class reference falls into a probe that hits, the result is dropped. A class reference that
+    /// is closed isn't probed.
     #[inline(always)]
-    pub fn find(
+    pub fn try_find(
         &mut self,
         arena: &Arena,
         notes: &mut Notes,
@@ -188,14 +190,14 @@ impl Reader {
         let since = self.stamp(arena, class);
         match notes.recall(since, class, sel) {
             Some(imp) => Some(imp),
-            None => self.find_cached(arena, notes, since, class, sel),
+            None => self.try_find_cached(arena, notes, since, class, sel),
         }
     }
 
-    // As `find`, of what the notes lack since the stamp that was loaded.
+    // Does the same as `try_find` for a lookup that the notes lack since the stamp that was loaded.
     #[cold]
     #[inline(never)]
-    fn find_cached(
+    fn try_find_cached(
         &mut self,
         arena: &Arena,
         notes: &mut Notes,
@@ -224,12 +226,12 @@ impl Reader {
         if count < since {
             return None;
         }
-        self.find_at(arena, notes, count, class, sel)
+        self.try_find_at(arena, notes, count, class, sel)
     }
 
-    /// As `find`, for who asks the notes by the number of changes: what the notes have is noted
-    /// again at that number, which is loaded first.
-    pub fn find_counted(
+    /// Does the same as `try_find` for a caller that uses the notes by the number of changes. What the
+    /// notes have is noted again at that number, which is loaded first.
+    pub fn try_find_counted(
         &mut self,
         arena: &Arena,
         notes: &mut Notes,
@@ -263,14 +265,14 @@ impl Reader {
                 Some(imp)
             }
             None if count < since => None,
-            None => self.find_at(arena, notes, count, class, sel),
+            None => self.try_find_at(arena, notes, count, class, sel),
         }
     }
 
-    // As `find`, of what the notes lack, where so many changes were counted: a hit is noted at that
-    // count.
+    // Does the same as `try_find` for a lookup that the notes lack, when this number of changes was
+    // counted. A hit is noted at that count.
     #[inline(always)]
-    pub(crate) fn find_at(
+    pub(crate) fn try_find_at(
         &mut self,
         arena: &Arena,
         notes: &mut Notes,

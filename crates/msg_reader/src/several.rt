@@ -1,9 +1,9 @@
 //! Several lookups at one point of the history.
 //!
-//! The count of changes is loaded first, and each lookup is answered as after so many. The stamp
-//! of its class reference is loaded before that, and isn't above the count. So no change after so
-//! many has affected it yet, and what the notes or the cache have now is what the lookup found
-//! then. A change of other classes goes by unseen.
+//! The count of changes is loaded first, and each lookup is answered as of that count. The stamp of
+//! its class reference is loaded before the notes or the cache are read, and isn't above the count.
+//! So no change after the count has affected the class reference yet, and what the notes or the
+//! cache have now is what the lookup found then. A change of other classes is not noticed.
 
 ghost use Rattle.std.specs.Prelude.{◌≡◌, ◌≤◌, ◌<◌, ◌+◌, ◌⊎◌, length, IfSome, IfNone, IsSome};
 ghost use Rattle.msg_tables.specs.History.{BeginsWith};
@@ -22,14 +22,14 @@ use msg_cache::Arena;
 use msg_names::ImpRef;
 
 impl Reader {
-    /// The numbers of the implementations that several lookups find, 0 for forwarding, all at one
-    /// point: after so many changes as are answered, which the reader has then seen, and which are
-    /// no fewer than it had seen. No lock is taken.
+    /// Returns the number of changes, and writes the numbers of the implementations that several
+    /// lookups find after that many changes, 0 for forwarding. The reader has then seen these
+    /// changes, which are no fewer than it had seen. No lock is taken.
     ///
-    /// Nothing is answered where the notes and a cache lack one of them, or where a change that
-    /// affects the class reference of one has fallen among them. Then the runtime answers. What
-    /// stands in `imps` means nothing then.
-    pub fn find_all<L: LookupList>(
+    /// It returns nothing if the notes and a cache lack one of them, or if a change that affects
+    /// the class reference of one has fallen among them. Then the runtime answers, and `imps` has
+    /// no meaning.
+    pub fn try_find_all<L: LookupList>(
         &mut self,
         arena: &Arena,
         notes: &mut Notes,
@@ -57,7 +57,7 @@ impl Reader {
         let count = self.refresh(arena);
         for place in 0..lookups.len() {
             let lookup = lookups.get(place);
-            let Some(imp) = self.find_after(arena, notes, count, lookup) else {
+            let Some(imp) = self.try_find_after(arena, notes, count, lookup) else {
                 return None;
             };
             imps[place] = imp.number();
@@ -65,10 +65,10 @@ impl Reader {
         Some(count)
     }
 
-    // What a lookup found after so many changes, where none after them has affected its class
-    // reference, and the notes or the cache have it.
+    // Returns what a lookup found after this number of changes, if none after them has affected its
+    // class reference and the notes or the cache have it.
     #[inline]
-    fn find_after(
+    fn try_find_after(
         &mut self,
         arena: &Arena,
         notes: &mut Notes,
@@ -101,7 +101,7 @@ impl Reader {
         }
         match notes.recall(since, lookup.class, lookup.sel) {
             Some(imp) => Some(imp),
-            None => self.find_at(arena, notes, count, lookup.class, lookup.sel),
+            None => self.try_find_at(arena, notes, count, lookup.class, lookup.sel),
         }
     }
 }

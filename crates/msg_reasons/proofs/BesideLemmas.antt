@@ -22,7 +22,7 @@ use Rattle.msg_reasons.specs.Text.{beside_lines, beside_text, seen_text}
 use Rattle.msg_reasons.specs.declared.beside.Beside.{Beside}
 use Rattle.msg_reasons.proofs.ItemLemmas.{drop-next}
 
--- the tables stand at the history after the items before, the lookups are on a course, and the text
+-- the tables are at the history after the items before, the lookups are on a course, and the text
 -- with the lines of those left is the whole
 pub record IsSoFarBeside (d : DocumentParts) (versions : List ℕ) (e : Beside) (text : List ℕ) (left : List ItemParts) : Type 0 where
   pub history : History

@@ -40,7 +40,7 @@ made-log : (h : History) (xs : List Change) → log (and_as_one h xs) ≡ and_al
 made-log h [] = refl
 made-log h (x ∷ xs) = log-all h (x ∷ xs)
 
--- the tables stand at the history after an item
+-- the tables are at the history after an item
 stands-made : (item : ItemParts) (h : History) (new : TablesView) → outcome_at h item ≡ outcomes.Made → StandsAt new (and_all (log h) (changes_in item)) → StandsAt new (log (history_after h item))
 stands-made item h new made stands =
     subst (λ (o : Outcome). StandsAt new (log (longer_by h (changes_in item) o))) (sym made) (subst (StandsAt new) (sym (made-log h (changes_in item))) stands)

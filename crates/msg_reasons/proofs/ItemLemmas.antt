@@ -28,7 +28,7 @@ use Rattle.msg_reasons.specs.Explanation.{reason_at, reasons_from}
 use Rattle.msg_reasons.specs.Items.{ExplainsItem}
 use Rattle.msg_reasons.specs.Text.{explanation_text, lookups_text, reason_lines}
 
--- the tables stand at the history after the items before, and the text with the lines of those left
+-- the tables are at the history after the items before, and the text with the lines of those left
 -- is the whole
 pub record IsSoFar (d : DocumentParts) (tables : TablesView) (text : List ℕ) (left : List ItemParts) : Type 0 where
   pub history : History

@@ -101,7 +101,7 @@ followed k (Asks c s go) q r (next, i, inr (goes, found), more) =
 
 -- ---- tables on the way
 
--- they stand where the version is reached
+-- they are where the version is reached
 pub comes_reached : (version : ℕ) (old now : Moving) (h g : History) → IsAt now g → point_of version g (map item_parts now.left.now) ≡ point_of version h (map item_parts old.left.now) → version ≤ now.made → ComesTo version old now h
 comes_reached version old now h g at same le =
     let reached : point_of version h (map item_parts old.left.now) ≡ point_at g (map item_parts now.left.now) =

@@ -1,4 +1,4 @@
--- What becomes of an item's changes.
+-- The outcome of an item's changes.
 use Rattle.std.specs.Prelude.{◌≡◌, ℕ, List, length, Option, Some, None}
 use Rattle.msg_image.specs.Items.{ItemParts}
 use Rattle.msg_tables.specs.History.{History, log}
@@ -22,7 +22,7 @@ abbrev pub place_and_fault : Option Refused → Option (ℕ × ChangeFault)
 place_and_fault None = None
 place_and_fault (Some r) = Some (r.place, r.fault)
 
--- a list of changes was made as one, or the first that would be refused is told
+-- a list of changes was made as one, or the first that would be refused is returned
 abbrev pub IsMadeOrRefused : List Change → TablesView → TablesView → Option Refused → Type 0
 IsMadeOrRefused xs old new refused = (h : Log) → StandsAt old h → (refused_from 0 h xs ≡ place_and_fault refused) × StandsAt new (log_after h xs refused)
 

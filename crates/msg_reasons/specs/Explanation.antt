@@ -1,4 +1,4 @@
--- Why a document is answered as it is: each answer, and the lookups behind it.
+-- Why a document has its answers: each answer, and the lookups behind it.
 use Rattle.std.specs.Prelude.{ℕ, List, [], ◌∷◌, length, map}
 use Rattle.msg_image.specs.Items.{ItemParts, SendItem, DocumentParts}
 use Rattle.msg_image.specs.Opened.{origin_of}

@@ -19,7 +19,7 @@ pub record IsOpened (image : ImageParts) (e : Explainer) : Type 0 where
   pub sizes : table_sizes e.noting.tables ≡ sizes_of image
   pub lines : AreLines image e.lines
 
--- wherever the tables stood, the lines of an item were added, and they stand after it
+-- wherever the tables were, the lines of an item were added, and they are after it
 abbrev pub ExplainsItem : ImageParts → ItemParts → TablesView → TablesView → List ℕ → List ℕ → Type 0
 ExplainsItem image item old new text more =
     (h : History) → StandsAt old (log h) → (more ≡ text ++ reason_lines image (reason_at image h item)) × StandsAt new (log (history_after h item))

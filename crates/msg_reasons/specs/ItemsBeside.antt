@@ -18,8 +18,8 @@ pub record IsOpenedBeside (image : ImageParts) (items : List ItemParts) (version
   pub on : IsOn e.moving (opening image items versions)
   pub sizes : table_sizes e.moving.tables ≡ sizes_of image
 
--- wherever the tables stood, and on whatever course, the lines of an item were added, and they
--- stand after it
+-- wherever the tables were, and on whatever course, the lines of an item were added, and they are
+-- after it
 abbrev pub ExplainsBeside : ImageParts → ItemParts → Beside → Beside → List ℕ → List ℕ → Type 0
 ExplainsBeside image item old new text more =
     (h : History) (k : Course) → StandsAt old.tables (log h) → IsOn old.moving k

@@ -10,7 +10,7 @@ use Rattle.msg_reasons.specs.Lookups.{looked_at}
 use Rattle.msg_reasons.specs.declared.notes.Lookup.{Lookup}
 use Rattle.msg_reasons.specs.declared.slots.Slots.{Slots}
 
--- wherever the tables stand, this is the lookup of its selector in its class reference
+-- wherever the tables are, this is the lookup of its selector in its class reference
 pub record IsFound (tables : TablesView) (l : Lookup) : Type 0 where
   pub listed : imp_number l.imp ≤ last_imp tables.counts
   pub meaning : (h : History) → StandsAt tables (log h) → looked l ≡ looked_at h l.class (selector_number l.sel)

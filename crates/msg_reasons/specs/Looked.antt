@@ -8,6 +8,6 @@ use Rattle.msg_reasons.specs.declared.notes.Lookup.{Lookup}
 abbrev pub looked : Lookup → Looked
 looked l = record { class = l.class; sel = selector_number l.sel; imp = imp_number l.imp; holder = l.holder }
 
--- the same of each of several
+-- the same for each of several
 abbrev pub all_looked : List Lookup → List Looked
 all_looked ls = map looked ls

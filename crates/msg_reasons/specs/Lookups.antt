@@ -5,7 +5,7 @@ use Rattle.msg_tables.specs.History.{History, lookup, holder}
 use Rattle.msg_eval.specs.Meaning.{Meaning, Ends, Asks}
 
 -- A lookup: the class reference that was asked, for which selector, the implementation that was
--- found, or 0 for forwarding, and the class reference where its method stands.
+-- found, or 0 for forwarding, and the class reference where its method is.
 pub record Looked : Type 0 where
   pub class : ClassRef
   pub sel : ℕ

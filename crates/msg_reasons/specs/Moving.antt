@@ -18,11 +18,11 @@ use Rattle.msg_reasons.specs.declared.moving.Seen.{Seen}
 abbrev pub seen_of : Seen → beside.Seen
 seen_of k = record { looked = looked k.lookup; changes = k.changes }
 
--- the same of each of several
+-- the same for each of several
 abbrev pub all_seen : List Seen → List beside.Seen
 all_seen ks = map seen_of ks
 
--- the tables stand at the history of the course, and the rest is its rest
+-- the tables are at the history of the course, and the rest is its rest
 pub record IsOn (m : Moving) (k : Course) : Type 0 where
   pub stands : StandsAt m.tables (log k.history)
   pub made : m.made ≡ length k.history.changes
@@ -30,34 +30,34 @@ pub record IsOn (m : Moving) (k : Course) : Type 0 where
   pub versions : m.versions.now ≡ k.versions
   pub seen : all_seen m.seen.items ≡ k.seen
 
--- it is on this course, or on none where memory was wanting
+-- it is on this course, or on none where memory was lacking
 abbrev pub IsOnOrLost : Moving → Option Course → Type 0
 IsOnOrLost m None = m.is_whole ≡ false
 IsOnOrLost m (Some k) = (m.is_whole ≡ true) × IsOn m k
 
--- a lookup is one more on the course, or memory was wanting
+-- a lookup is one more on the course, or memory was lacking
 abbrev pub FollowsCourse : Steps (Option Course)
 FollowsCourse None c s i q = q ≡ None
 FollowsCourse (Some k) c s i q = (q ≡ None) ⊎ ((q ≡ Some (after_lookup k c s)) × (i ≡ lookup (moved k).history c s))
 
--- the tables stand at a history, and the count says how many lists it has
+-- the tables are at a history, and the count says how many lists it has
 abbrev pub IsAt : Moving → History → Type 0
 IsAt m h = StandsAt m.tables (log h) × (m.made ≡ length h.changes)
 
--- wherever they stood, they stand after the changes of an item
+-- wherever they were, they are after the changes of an item
 abbrev pub MakesItem : Moving → Moving → ItemParts → Type 0
 MakesItem old new item = (h : History) → IsAt old h → IsAt new (history_after h item)
 
--- they stand at the first point of a version or a later one, and what is left is left there
+-- they are at the first point of a version or a later one, and what is left is left there
 abbrev pub ComesTo : ℕ → Moving → Moving → History → Type 0
 ComesTo version old new h =
     (let p = point_of version h (map item_parts old.left.now) in IsAt new p.history × (map item_parts new.left.now ≡ p.left))
 
--- wherever they stood
+-- wherever they were
 abbrev pub MovesTo : ℕ → Moving → Moving → Type 0
 MovesTo version old new = (h : History) → IsAt old h → ComesTo version old new h
 
--- nothing but where the tables stand and what is left was changed
+-- nothing but where the tables are and what is left was changed
 pub record KeepsNotes (old new : Moving) : Type 0 where
   pub seen : new.seen.items ≡ old.seen.items
   pub whole : new.is_whole ≡ old.is_whole

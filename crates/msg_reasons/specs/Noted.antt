@@ -15,12 +15,12 @@ pub record NotingView : Type 0 where
   pub lookups : List Looked
   pub is_whole : Bool
 
--- where tables stand, and what was looked up there
+-- where tables are, and what was looked up there
 pub record Noted : Type 0 where
   pub history : History
   pub lookups : List Looked
 
--- the tables stand at the history, and each of these lookups was noted where there was memory
+-- the tables are at the history, and each of these lookups was noted if there was memory
 abbrev pub StandsNoted : NotingView → Noted → Type 0
 StandsNoted n p = StandsAt n.tables (log p.history) × (n.is_whole ≡ true → n.lookups ≡ p.lookups)
 
@@ -29,7 +29,7 @@ abbrev pub NotesLookup : Steps Noted
 NotesLookup p c s i q =
     (i ≡ lookup p.history c s) × (q ≡ record { history = p.history; lookups = p.lookups ++ looked_at p.history c s ∷ [] })
 
--- wherever the tables stand, what was noted are the send's lookups there, and this is its reply
+-- wherever the tables are, what was noted are the send's lookups there, and this is its reply
 abbrev pub IsExplained : NotingView → Meaning → Reply → Type 0
 IsExplained n send reply =
     (h : History) → StandsAt n.tables (log h) → (n.lookups ≡ lookups_of h send) × (reply ≡ plain_reply h send)

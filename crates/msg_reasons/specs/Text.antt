@@ -17,7 +17,7 @@ use Rattle.msg_reasons.specs.Lookups.{Looked}
 abbrev pub asked_text : ImageParts → ClassRef → ℕ → List ℕ
 asked_text image c s = (if c.meta then codes "+[" else codes "-[") ++ class_name image c.class ++ codes " " ++ unwrap_or (name_at image.names s) [] ++ codes "]"
 
--- the class reference where a method stands
+-- the class reference where a method is
 abbrev pub place_text : ImageParts → ClassRef → List ℕ
 place_text image c = (if c.meta then codes " found in metaclass " else codes " found in ") ++ class_name image c.class
 
@@ -30,7 +30,7 @@ abbrev pub category_text : Option ℕ → List ℕ
 category_text None = []
 category_text (Some place) = codes " of " ++ place_of_category place
 
--- the implementation of a method that stands at a class reference, by its place in the document, and
+-- the implementation of a method that is at a class reference, by its place in the document, and
 -- the category of which it is
 abbrev pub listed_text : ImageParts → Looked → ClassRef → List ℕ
 listed_text image l c = codes ": imps[" ++ digits (l.imp - 1) ++ codes "]" ++ category_text (category_of image.categories c l.sel l.imp)
@@ -56,11 +56,11 @@ number_text words n = words ++ digits n
 abbrev pub count_line : ℕ → ℕ → List ℕ
 count_line n changes = line_of (number_text (codes "  lookups: ") n ++ number_text (codes ", changes before: ") changes)
 
--- the lookups of a send, a line for each, and how many there were, after so many changes
+-- the lookups of a send, a line for each, and how many there were, after this number of changes
 abbrev pub lookups_text : ImageParts → List Looked → ℕ → List ℕ
 lookups_text image ls changes = flat_map (lookup_line image) ls ++ count_line (length ls) changes
 
--- what is said behind an answer after so many changes; of what became of changes nothing
+-- what is said behind an answer after this number of changes; of what became of changes nothing
 abbrev pub lookup_lines : ImageParts → Answer → List Looked → ℕ → List ℕ
 lookup_lines image (Replied r) ls changes = lookups_text image ls changes
 lookup_lines image (Changed o) ls changes = []
@@ -69,7 +69,7 @@ lookup_lines image (Changed o) ls changes = []
 abbrev pub reason_lines : ImageParts → Reason → List ℕ
 reason_lines image r = answer_line image r.answer ++ lookup_lines image r.answer r.lookups r.changes
 
--- what is said of a document that is answered
+-- the text for a document that is answered
 unfoldable pub explanation_text : DocumentParts → List ℕ
 explanation_text d = flat_map (reason_lines d.image) (explanation_of d)
 
@@ -92,6 +92,6 @@ seen_lines image (Changed o) ks = []
 abbrev pub beside_lines : ImageParts → beside.Reason → List ℕ
 beside_lines image r = answer_line image r.answer ++ seen_lines image r.answer r.seen
 
--- what is said of a document whose lookups are answered at these versions
+-- the text for a document whose lookups are answered at these versions
 unfoldable pub beside_text : DocumentParts → List ℕ → List ℕ
 beside_text d versions = flat_map (beside_lines d.image) (beside.explanation_beside d versions)

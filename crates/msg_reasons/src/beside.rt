@@ -1,4 +1,4 @@
-//! What is said of a document whose changes are made beside its sends.
+//! Explanations of a document whose changes are made while its sends are answered.
 
 ghost use Rattle.std.specs.Prelude.{◌≡◌, IfOk, OnOk, map};
 ghost use Rattle.msg_image.specs.DocumentParts.{document_parts};
@@ -22,7 +22,7 @@ use msg_tables::{Tables, Written};
 use std::alloc::{AllocError, Global};
 
 // The tables in which the changes are made in their order, and those in which the sends are
-// answered, which are on their way through the same changes.
+// answered, which go through the same changes.
 #[derive(Drop)]
 pub(crate) struct Beside<'c> {
     pub(crate) tables: Tables,
@@ -31,7 +31,7 @@ pub(crate) struct Beside<'c> {
 }
 
 impl<'c> Beside<'c> {
-    // An explainer that has explained nothing.
+    // Makes an explainer that has explained nothing.
     fn open(
         alloc: Global,
         image: &Image,
@@ -101,13 +101,14 @@ impl<'c> Beside<'c> {
     }
 }
 
-/// Answers a document's items as a run does that makes the changes beside the sends, and says under
-/// each answer which lookups are behind it, and how many changes were made before each.
+/// Answers a document's items as a run does that makes the changes while the sends are answered.
+/// Under each answer it writes the lookups behind it, and the number of changes that were made
+/// before each.
 ///
-/// Of the versions the first is that at which the first lookup is answered, and so on: a version is
-/// how many items of changes were made. None goes back: one that is less than the one before it,
-/// or that is missing, is the one before it; one that is more than there are is the last. Only
-/// memory can fail.
+/// The first of the versions is that of the first lookup, and so on. A version is the number of
+/// items of changes that were made. No version goes back: one that is less than the one before it,
+/// or that is missing, counts as the one before it. A version above the number of items of changes
+/// counts as that number. The only error is a lack of memory.
 pub fn explain_beside(
     alloc: Global,
     document: &Document,

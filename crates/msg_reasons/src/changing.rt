@@ -9,7 +9,7 @@ use msg_tables::{Change, ChangeFault, Refused, Tables, Written};
 use std::alloc::AllocError;
 use std::slice::from_ref;
 
-// Makes changes as one, or tells the first that would be refused.
+// Makes changes as one, or returns the first that would be refused.
 fn make(
     tables: &mut Tables,
     changes: &[Change],
@@ -27,7 +27,7 @@ fn make(
     }
 }
 
-// Makes a change, and says what became of it.
+// Makes a change, and returns its outcome.
 pub(crate) fn change_one(
     tables: &mut Tables,
     change: &Change,
@@ -42,7 +42,7 @@ pub(crate) fn change_one(
     }
 }
 
-// Makes changes as one, and says what became of them.
+// Makes changes as one, and returns their outcome.
 pub(crate) fn change_as_one(
     tables: &mut Tables,
     changes: &[Change],

@@ -1,4 +1,4 @@
-//! What is said of a document that is answered.
+//! Explanations of a document that is answered.
 
 ghost use Rattle.std.specs.Prelude.{◌≡◌, IfOk, OnOk};
 ghost use Rattle.msg_image.specs.DocumentParts.{document_parts};
@@ -24,7 +24,7 @@ use msg_names::{Selector, Value};
 use msg_tables::Written;
 use std::alloc::{AllocError, Global};
 
-// The tables that a document's items are answered by, and what is noted on the way.
+// The tables by which a document's items are answered, and what is noted on the way.
 #[derive(Drop)]
 struct Explainer {
     noting: Noting,
@@ -33,7 +33,7 @@ struct Explainer {
 }
 
 impl Explainer {
-    // An explainer that has explained nothing.
+    // Makes an explainer that has explained nothing.
     fn open(alloc: Global, image: &Image) -> Result<Explainer, AllocError>
         ensures { IfOk result (IsOpened image.now) }
     {
@@ -102,12 +102,12 @@ impl Explainer {
     }
 }
 
-/// Answers a document's items in their order, and says under each answer which lookups are behind
-/// it: each lookup of a send on a line, with the class where the method stands that it found, and
-/// how many there are.
+/// Answers a document's items in their order, and writes under each answer the lookups behind it.
+/// Each lookup of a send has a line, with the class that has the method which it found, and their
+/// number follows.
 ///
-/// Without the lines of lookups it is the text that `answer_document` of `msg_runner` answers. Only
-/// memory can fail.
+/// Without the lines of lookups it is the text that `answer_document` of `msg_runner` returns. The
+/// only error is a lack of memory.
 pub fn explain_document(alloc: Global, document: &Document) -> Result<Vec<u8>, AllocError>
     requires { IsSoundDocument (document_parts document.now) }
     ensures { IfOk result (λ text. text.items ≡ explanation_text (document_parts document.now)) }

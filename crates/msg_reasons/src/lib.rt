@@ -1,12 +1,13 @@
-//! Why a document is answered as it is: under each answer the lookups behind it.
+//! Why a document has its answers: under each answer the lookups behind it.
 //!
-//! [`explain_document`] answers the items as one thread does that searches the method lists, and
-//! notes each lookup of each send, with the class where the method stands that it found.
+//! [`explain_document`] answers the items like one thread that searches the method lists. It notes
+//! each lookup of each send, with the class that has the method which the lookup found.
 //!
-//! [`explain_beside`] answers them as a run does that makes the changes beside the sends, where each
-//! lookup is answered at a version that is given.
+//! [`explain_beside`] answers them like a run that makes the changes while the sends are answered.
+//! Each lookup is answered at a version that is given.
 //!
-//! While the tables stay, most lookups are searched for once; and most lines are written once.
+//! While the tables stay the same, most lookups are searched for only once, and most lines are
+//! written only once.
 #![tactic(auto)]
 
 mod beside;

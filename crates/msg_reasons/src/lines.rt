@@ -1,4 +1,4 @@
-//! The lines of lookups, kept to be copied where one is told again.
+//! The lines of lookups, kept so that a line that comes again is copied.
 
 ghost use Rattle.std.specs.Prelude.{◌≡◌, true, IfSome, OnOk};
 ghost use Rattle.std.specs.List.{Contains};
@@ -22,7 +22,7 @@ pub(crate) struct Line {
     pub(crate) text: Vec<u8>,
 }
 
-// Whether both are none, or one class reference.
+// Whether both are none, or both are the same class reference.
 fn is_same(a: Option<ClassRef>, b: Option<ClassRef>) -> bool
     ensures { result ≡ true → a ≡ b }
 {

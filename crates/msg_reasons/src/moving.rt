@@ -1,4 +1,4 @@
-//! Tables in which a send's lookups are answered at versions that are given.
+//! Tables in which a send's lookups are answered at given versions.
 
 ghost use Rattle.std.specs.Prelude.{◌≡◌, ◌<◌, ◌+◌, ◌^◌, IfOk, OnOk, map, true};
 ghost use Rattle.msg_image.specs.Plain.{item_parts};
@@ -20,7 +20,7 @@ use msg_names::{ClassRef, ImpRef, Selector, Value};
 use msg_tables::{Tables, Written};
 use std::alloc::{AllocError, Global};
 
-// A lookup, and how many changes were made before it.
+// A lookup, and the number of changes that were made before it.
 #[derive(Clone, Copy)]
 pub(crate) struct Seen {
     pub(crate) lookup: Lookup,
@@ -32,7 +32,7 @@ pub(crate) struct Seen {
 pub(crate) struct Moving<'c> {
     pub(crate) tables: Tables,
     written: Written,
-    // How many lists of changes were made.
+    // The number of lists of changes that were made.
     pub(crate) made: u64,
     // The items whose changes come next.
     pub(crate) left: &'c [Item],
@@ -72,7 +72,7 @@ impl Finder for Moving<'_> {
 }
 
 impl<'c> Moving<'c> {
-    // The tables of an image, before the changes of these items.
+    // Makes the tables of an image, before the changes of these items.
     pub(crate) fn open(
         alloc: Global,
         image: &Image,
@@ -94,7 +94,7 @@ impl<'c> Moving<'c> {
         })
     }
 
-    // Makes the changes of an item, where there are any.
+    // Makes the changes of an item, if it has any.
     fn make(&mut self, item: &Item) -> Result<(), AllocError>
         requires { self.old.made + 1 < 2 ^ 64 }
         ensures made { OnOk result (MakesItem self.old self.new (item_parts item.now)) }
@@ -119,7 +119,7 @@ impl<'c> Moving<'c> {
         Ok(())
     }
 
-    // Makes changes until so many lists were made, or none is left.
+    // Makes changes until this number of lists was made, or none is left.
     fn move_to(&mut self, version: u64) -> Result<(), AllocError>
         ensures moved { OnOk result (MovesTo version self.old self.new) }
         ensures sizes { KeepsSizes self.old.tables self.new.tables }
@@ -149,7 +149,7 @@ impl<'c> Moving<'c> {
         Ok(())
     }
 
-    // As `move_on`. Where memory was wanting it isn't whole.
+    // Does the same as `move_on`. If memory is lacking, the record is no longer whole.
     fn follow(&mut self)
         ensures moved { self.new.is_whole ≡ true
             → (self.old.is_whole ≡ true) × MovesOn self.old self.new }
@@ -177,7 +177,7 @@ impl<'c> Moving<'c> {
         &self.seen
     }
 
-    // Sends a message, and notes the lookups of the bodies that it comes to.
+    // Sends a message, and notes the lookups of the bodies that it reaches.
     pub(crate) fn send(
         &mut self,
         image: &Image,

@@ -1,9 +1,9 @@
-//! What is noted of a send.
+//! The notes of a send.
 
 use msg_names::{ClassRef, ImpRef, Selector};
 
-/// A lookup: the class reference that was asked, for which selector, the implementation that was
-/// found, or forwarding, and the class reference where its method stands.
+/// A lookup: the class reference where it began, its selector, the implementation that it found, or
+/// forwarding, and the class reference that has the method.
 #[derive(Clone, Copy)]
 pub struct Lookup {
     pub class: ClassRef,

@@ -1,4 +1,4 @@
-//! Tables that note what is looked up in them.
+//! Tables that note the lookups in them.
 
 ghost use Rattle.std.specs.Prelude.{◌≡◌, ◌<◌, [], length, IfOk, IfSome};
 ghost use Rattle.std.specs.List.{Contains};
@@ -31,9 +31,9 @@ use std::marker::Model;
 pub(crate) struct Noting {
     tables: Tables,
     lookups: Vec<Lookup>,
-    // Whether there was memory for each.
+    // Whether there was memory for all of them.
     is_whole: bool,
-    // What was found in the tables as they stand.
+    // What was found in the present tables.
     known: Slots<Lookup>,
 }
 
@@ -83,7 +83,7 @@ fn known_of(known: &Slots<Lookup>, class: ClassRef, sel: Selector) -> Option<Loo
     }
 }
 
-// The lookup of a selector in a class reference. It is searched for only where it isn't known.
+// The lookup of a selector in a class reference. It is searched for only if it isn't known.
 fn look_up(tables: &Tables, class: ClassRef, sel: Selector, known: &mut Slots<Lookup>) -> Lookup
     requires class { class.class < length tables.now.supers }
     requires known { AreFound tables.now known.old }
@@ -127,7 +127,7 @@ impl Finder for Noting {
 }
 
 impl Noting {
-    // The tables of an image, in which nothing was looked up.
+    // Makes the tables of an image, in which nothing was looked up.
     pub(crate) fn open(alloc: Global, image: &Image) -> Result<Noting, AllocError>
         ensures stands { IfOk result (λ n. StandsAt n.tables (log (empty (origin_of image.now)))) }
         ensures sizes { IfOk result (λ n. table_sizes n.tables ≡ sizes_of image.now) }
@@ -152,7 +152,7 @@ impl Noting {
         &self.lookups
     }
 
-    // Forgets the lookups of the send before.
+    // Forgets the lookups of the previous send.
     fn begin(&mut self)
         ensures tables { self.new.tables ≡ self.old.tables }
         ensures lookups { self.new.lookups ≡ [] }
@@ -161,7 +161,7 @@ impl Noting {
         self.is_whole = true;
     }
 
-    // Sends a message, and notes the lookups of the bodies that it comes to.
+    // Sends a message, and notes the lookups of the bodies that it reaches.
     pub(crate) fn send(
         &mut self,
         image: &Image,
@@ -185,7 +185,7 @@ impl Noting {
         }
     }
 
-    // Makes a change, and says what became of it.
+    // Makes a change, and returns its outcome.
     pub(crate) fn change_one(
         &mut self,
         change: &Change,
@@ -199,7 +199,7 @@ impl Noting {
         changing::change_one(&mut self.tables, change, written)
     }
 
-    // Makes changes as one, and says what became of them.
+    // Makes changes as one, and returns their outcome.
     pub(crate) fn change_as_one(
         &mut self,
         changes: &[Change],

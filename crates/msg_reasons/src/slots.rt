@@ -9,16 +9,15 @@ use std::alloc::{AllocError, Global};
 
 const SLOTS: usize = 4096;
 
-// Items, each found by its slot until another takes that. Where there are too many, all are
-// forgotten.
+// Items, each found by its slot until another takes that. If there are too many, all are forgotten.
 #[derive(Drop)]
 pub(crate) struct Slots<T> {
     pub(crate) kept: Vec<T>,
-    // The place in `kept` that a slot had last. There may be another's item by now, or none.
+    // The last place in `kept` of a slot. By now it may have another slot's item, or none.
     places: Vec<usize>,
 }
 
-/// The slot of a selector and a class reference. Those of one class follow one another.
+/// The slot of a selector and a class reference. The slots of one class are consecutive.
 pub(crate) fn slot(class: ClassRef, sel: Selector) -> usize {
     (class.slot() * 61 + sel.number() as usize) & (SLOTS - 1)
 }
@@ -33,14 +32,14 @@ impl<T: Drop> Slots<T> {
         })
     }
 
-    // Forgets all.
+    // Forgets all items.
     pub(crate) fn forget(&mut self)
         ensures { self.new.kept.items ≡ [] }
     {
         self.kept.clear();
     }
 
-    // What may be the item of a slot.
+    // The item that may be the slot's.
     pub(crate) fn get(&self, slot: usize) -> Option<&T>
         ensures { IfSome result (λ item. Contains self.now.kept.items item.now) }
     {

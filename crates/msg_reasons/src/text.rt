@@ -1,10 +1,10 @@
-//! How lookups are told.
+//! The lines of lookups.
 
 ghost use Rattle.std.specs.Prelude.{◌≡◌, OnOk};
 ghost use Rattle.std.specs.List.{flat_map};
 ghost use Rattle.msg_io.specs.Writing.{Gains};
 ghost use Rattle.msg_names.specs.Number.{selector_number, imp_number};
-ghost use Rattle.msg_tables.specs.Methods.{method_numbers};
+ghost use Rattle.msg_rows.specs.Methods.{method_numbers};
 ghost use Rattle.msg_reasons.specs.Categories as chosen;
 ghost use Rattle.msg_reasons.specs.Lines.{AreLines};
 ghost use Rattle.msg_reasons.specs.Looked.{all_looked, looked};
@@ -74,8 +74,8 @@ fn last_that_gives(
     found
 }
 
-/// The place of the document's category of which a method is that stands at a class reference. Of
-/// two that list it the one listed last counts.
+/// The place of the document's category that has the method at a class reference. Of two categories
+/// that list it the later one counts.
 pub fn category_of(image: &Image, class: ClassRef, sel: Selector, imp: ImpRef) -> Option<usize>
     ensures { result
         ≡ chosen.category_of image.now.categories class (selector_number sel) (imp_number imp) }
@@ -200,7 +200,7 @@ fn push_count(text: &mut Vec<u8>, count: usize, changes: usize) -> Result<(), Al
     Ok(())
 }
 
-// Appends the lines of a send's lookups, and how many they are, after so many changes.
+// Appends the lines of a send's lookups, and their number, after a number of changes.
 #[tactic(auto, using(crate::proofs::NotedLemmas::count_looked))]
 pub(crate) fn push_lookups(
     text: &mut Vec<u8>,
@@ -240,7 +240,7 @@ fn push_seen_lines(text: &mut Vec<u8>, image: &Image, seen: &[Seen]) -> Result<(
     Ok(())
 }
 
-// Appends the lines of a send's lookups, and how many they are.
+// Appends the lines of a send's lookups, and their number.
 pub(crate) fn push_seen(text: &mut Vec<u8>, image: &Image, seen: &[Seen]) -> Result<(), AllocError>
     ensures { OnOk result (Gains text.old text.new (spec.seen_text image.now (all_seen seen.now))) }
 {

@@ -62,7 +62,7 @@ fn words_are_two_numbers_at_most(rt: HostRuntime) {
     }
 }
 
-// What is said after the name of the program, which is PROGRAM here.
+// The line after the name of the program, which is PROGRAM here.
 const LINES: [(Option<RunFault>, &str, u8); 23] = [
     (None, "usage: PROGRAM [workers [cut]]\n", 2),
     (Some(RunFault::Read), "read failed\n", 1),
@@ -162,7 +162,7 @@ const PROGRAMS: [(Program, &str); 2] = [
     (Program::Msgbeside, "msgbeside"),
 ];
 
-// What is said of a fault, with the status.
+// The line for a fault, with the status.
 fn line_is(
     rt: &impl Abort,
     alloc: Global,
@@ -187,7 +187,7 @@ fn each_fault_has_a_line_and_a_status(rt: HostRuntime) {
     }
 }
 
-// A write fails after so many bytes, of which the first is there.
+// A write fails after this number of bytes, of which the first is there.
 fn write_fails(rt: &impl Abort, size: usize, fault: Option<&RunFault>, status: u8) {
     let mut room = [0; 12];
     let mut sink = ToWriter::new(io::Cursor::new(&mut room[..size.min(12)]));
@@ -224,7 +224,7 @@ impl Read for Input<'_> {
 }
 
 // What a program is started with: its words, a document, or none where no read succeeds, and room
-// for so many bytes.
+// for this number of bytes.
 type Start = (&'static [&'static str], Option<&'static str>, usize);
 
 // And how it ends: its status, what it says after its name, and what it has written.

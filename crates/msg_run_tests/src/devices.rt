@@ -32,7 +32,7 @@ fn fault_of<R: Source, W: Sink, T: Threads + Wait + Sync>(
     ended.err()
 }
 
-/// A reader that gives at most so many bytes at a call, fails at one call, and then goes on.
+/// A reader that gives at most this number of bytes at a call, fails at one call, and then goes on.
 #[derive(Drop)]
 struct Unsteady<'a> {
     rest: &'a [u8],
@@ -52,7 +52,7 @@ impl Read for Unsteady<'_> {
     }
 }
 
-/// A writer that takes at most so many bytes at a call, fails at one call, and then goes on.
+/// A writer that takes at most this number of bytes at a call, fails at one call, and then goes on.
 #[derive(Drop)]
 struct Slow {
     taken: Vec<u8>,
@@ -86,7 +86,7 @@ fn slow_sink(alloc: Global, step: usize, calls_left: u32) -> ToWriter<Slow>
     })
 }
 
-// A run ended so, and its device failed where it is told.
+// A run ended in this way, and its device failed if a failure is reported.
 fn ended_so(
     rt: &impl Abort,
     (way, step, calls_left): (Way, usize, u32),

@@ -63,7 +63,7 @@ fn method(rows: &[Row], class: usize, sel: usize) -> Option<usize> {
     found
 }
 
-/// The number that a class answers to a selector, if it answers one.
+/// The number that a class returns for a selector, if it returns one.
 pub(crate) fn answer(rows: &[Row], class: usize, sel: usize) -> Option<u32> {
     rows.get(method(rows, class, sel)?).map(|row| row.number)
 }
@@ -90,7 +90,7 @@ fn exchange(rows: &mut [Row], class: usize) -> bool {
     }
 }
 
-/// Makes a change, and says whether it was accepted.
+/// Makes a change, and returns whether it was accepted.
 pub(crate) fn make(rt: &impl Abort, rows: &mut Vec<Row>, edit: Edit) -> bool {
     match edit {
         Edit::Set(class, sel, number) => {
@@ -127,7 +127,7 @@ fn selector(sel: usize) -> &'static str {
     SELECTORS.get(sel).copied().unwrap_or("")
 }
 
-// A change that names a method by class and selector, and the implementation that answers a number.
+// A change that names a method by class and selector, and the implementation that returns a number.
 fn named(
     rt: &impl Abort,
     alloc: Global,

@@ -12,7 +12,7 @@ use std::process::Abort;
 use std::sync::Wait;
 use std::thread::Threads;
 
-// Texts, each so many times.
+// Texts, each this number of times.
 type Texts = &'static [(&'static str, usize)];
 
 // Sends of each kind, to a class that forwards and to others.
@@ -36,8 +36,8 @@ const TWO: Texts = &[(G, 1), (S, 1)];
 
 const TWO_AND_A_CHANGE: Texts = &[(G, 1), (S, 1), (CHANGE, 1)];
 
-// A run of so many workers, with so many sends a piece, in which two moments are held, each until
-// another.
+// A run of this number of workers, with this number of sends a piece, in which two moments are
+// held, each until another.
 #[derive(Clone, Copy)]
 struct Row {
     name: &'static str,
@@ -209,7 +209,7 @@ fn is_either(rt: &impl Abort, alloc: Global, text: &[u8], [one, other]: [Texts; 
 fn run_is<T: Threads + Wait + Abort + Sync>(rt: &T, alloc: Global, row: &Row) {
     let [(held, until), (other_held, other_until)] = row.holds;
     let holds = [Hold::new(held, until), Hold::new(other_held, other_until)];
-    // where the limit is met it is a small one
+    // if the limit is reached, it is a small one
     let turns = if row.gave_up { 100_000 } else { TURNS };
     let gate = Holding::new(&holds, turns);
     let items = joined(rt, alloc, row.items, ",");

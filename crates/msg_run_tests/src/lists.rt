@@ -1,4 +1,4 @@
-//! Changes that are made as one, between sends and beside them.
+//! Changes that are made as one, between sends and while they are answered.
 
 use crate::holding::Moment::{ChangeDone, ChangeStarts, PieceDone, PieceStarts};
 use crate::holding::{Hold, Holding, Moment, TURNS};

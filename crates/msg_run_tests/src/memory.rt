@@ -199,7 +199,7 @@ fn commits(rt: &impl Abort, machine: &mut Machine) -> bool {
     }
 }
 
-// Makes a call, and says whether there was memory for it. Where there wasn't, nothing has changed.
+// Makes a call, and returns whether there was memory for it. If there wasn't, nothing has changed.
 fn is_made(rt: &impl Abort, alloc: Global, bed: &mut Bed, call: Call) -> bool {
     match call {
         Call::Intern => interns(rt, &mut bed.names),
@@ -273,7 +273,7 @@ fn a_send_takes_no_memory(rt: HostRuntime) {
     }
 }
 
-// What is said without memory.
+// The lines that are written without memory.
 const SAID: [(Option<RunFault>, &str, u8); 4] = [
     (None, "msgrun: usage: msgrun [workers [cut]]\n", 2),
     (Some(RunFault::Memory), "msgrun: out of memory\n", 1),

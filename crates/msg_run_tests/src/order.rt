@@ -1,4 +1,4 @@
-//! What a gate is told, and in which order.
+//! The calls of a gate, and their order.
 
 use crate::holding::Moment;
 use crate::runs::{Way, document, ran, wrote};
@@ -9,14 +9,14 @@ use std::process::Abort;
 use std::sync::{Mutex, Wait};
 use std::thread::Threads;
 
-/// What a gate was told once: by which worker, where it's a piece.
+/// One call of a gate: the worker that made it, if it is about a piece.
 #[derive(Clone, Copy, Debug)]
 struct Told {
     moment: Moment,
     worker: Option<u32>,
 }
 
-/// A gate that writes down what it is told.
+/// A gate that records its calls.
 #[derive(Drop)]
 struct Log<'r, R: Wait> {
     rt: &'r R,
@@ -31,7 +31,7 @@ impl<'r, R: Wait> Log<'r, R> {
         }
     }
 
-    // What can't be written down is missed when the log is read.
+    // A call that can't be recorded is missed when the log is read.
     fn write(&self, moment: Moment, worker: Option<u32>) {
         let _written = self.told.lock(self.rt).push(Told { moment, worker });
     }
@@ -65,7 +65,7 @@ const ITEMS: &str =
 
 const LINES: &str = "7\n7\n11\nok\n7\nok\nrefused: method present\n11\n7\n";
 
-// What a run of so many workers tells, with so many sends a piece.
+// The calls of a run with this number of workers and this number of sends in a piece.
 fn logged<R: Threads + Wait + Abort + Sync>(
     rt: &R,
     alloc: Global,
@@ -81,7 +81,7 @@ fn logged<R: Threads + Wait + Abort + Sync>(
     told.into_inner()
 }
 
-// When a gate was told of a moment, which it was once.
+// When a gate was called for a moment, which it was once.
 fn when<R: Abort>(rt: &R, told: &[Told], moment: Moment) -> usize {
     let times = told.iter().filter(|t| t.moment == moment).count();
     same_at(rt, &moment, times, 1);
@@ -90,7 +90,7 @@ fn when<R: Abort>(rt: &R, told: &[Told], moment: Moment) -> usize {
         .expect(rt, "it was told")
 }
 
-// Whether the gate was told of each moment of a row after the one before.
+// Whether the gate was called for each moment of a row after the one before.
 fn are_in_order<R: Abort>(rt: &R, told: &[Told], moments: &[Moment]) {
     let mut before = None;
     for moment in moments {
@@ -117,7 +117,8 @@ fn are_by<R: Abort>(rt: &R, told: &[Told], workers: &[u32]) {
     }
 }
 
-// A run of so many workers, with so many sends a piece, and the worker of each of its pieces.
+// A run of this number of workers, with this number of sends a piece, and the worker of each of its
+// pieces.
 const SHARED: [(Way, u32, u32, &[u32]); 11] = [
     (Way::Between, 1, 1, &[0, 0, 0, 0, 0, 0]),
     (Way::Between, 1, 2, &[0, 0, 0, 0]),

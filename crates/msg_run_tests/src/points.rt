@@ -5,7 +5,7 @@ use crate::edits::{CLASSES, Edit, Row, SELECTORS, answer, make, opening};
 use std::alloc::Global;
 use std::process::Abort;
 
-/// What was answered at one point: a number for each class and selector.
+/// The results at one point: a number for each class and selector.
 #[derive(Clone, Copy, Debug)]
 struct Answers {
     numbers: [[Option<u32>; 2]; 3],
@@ -28,14 +28,14 @@ pub(crate) struct Points {
     pub(crate) accepted: Vec<bool>,
 }
 
-/// What is sent to an object: one of the selectors, or that whose body sends it both.
+/// What is sent to an object: one of the selectors, or the one whose body sends it both.
 #[derive(Clone, Copy, Debug, PartialEq, Eq)]
 pub(crate) enum Sent {
     One(usize),
     Both,
 }
 
-/// The body of `both` answers so many times `value`, and `name`.
+/// The body of `both` returns a multiple of `value`, plus `name`.
 pub(crate) const FACTOR: u32 = 10_000;
 
 impl Points {
@@ -61,7 +61,7 @@ impl Points {
         self.answers.push(answers_of(rows)).expect(rt, "memory");
     }
 
-    // The first point from one on at which a class answers the number to a selector.
+    // The first point from one on at which a class returns the number for a selector.
     fn first(&self, from: usize, class: usize, sel: usize, number: u32) -> Option<usize> {
         for (later, answers) in self.answers.get(from..)?.iter().enumerate() {
             let of_class = answers.numbers.get(class)?;

@@ -65,7 +65,7 @@ const REFUSALS: [(&str, u32, u32, Option<RunFault>, &str); 12] = [
     ),
 ];
 
-// The document with so many spaces after it.
+// The document with this number of spaces after it.
 fn with_spaces(rt: &impl Abort, alloc: Global, spaces: usize) -> String {
     let spaces = " ".repeat(alloc, spaces).expect(rt, "memory");
     format!(in alloc; "{SMALL}{spaces}").expect(rt, "memory")

@@ -15,14 +15,14 @@ use std::thread::{self, Threads};
 const ROUNDS: u32 = 4;
 
 const CHANGES: u32 = 2_000;
-// A change comes after so many sends.
+// A change comes after this number of sends.
 const SENDS_EACH: usize = 30;
 
 const WORKERS: u32 = 4;
 
 const CUT: u32 = 32;
 
-// The change of this number, from 1 on. What it makes a method answer is new.
+// The change with this number, from 1. The value that it makes a method return is new.
 fn edit(number: u32) -> Edit {
     match number % 16 {
         1 | 9 => Edit::Set(0, 0, number),
@@ -154,7 +154,7 @@ impl Gate for Paced {
     }
 }
 
-// What was seen of the workers' points while the lines are gone through.
+// What was seen of the workers' points while the lines are read.
 #[derive(Drop)]
 struct Seen {
     fronts: [usize; WORKERS as usize],
@@ -174,7 +174,7 @@ impl Seen {
         }
     }
 
-    // A send's line: what some point answers, which isn't before the worker's last one.
+    // A send's line: the result at some point, which isn't before the worker's last one.
     fn take_send(&mut self, points: &Points, line: &str) -> Option<()> {
         let (class, sent) = send_of(self.sends);
         let worker = (self.sends / CUT as usize) % WORKERS as usize;
@@ -199,7 +199,7 @@ impl Seen {
         if line == told { Some(()) } else { None }
     }
 
-    // The next line, which is a change's after every so many sends.
+    // The next line, which is a change's after each group of that many sends.
     fn take(&mut self, points: &Points, line: &str) -> Option<()> {
         let each = SENDS_EACH + 1;
         let item = self.sends.saturating_add(self.changes);
@@ -211,7 +211,7 @@ impl Seen {
     }
 }
 
-// Each line is that of some point. Says how often a worker's points rose.
+// Each line is that of some point. Returns how often a worker's points rose.
 fn rises(rt: &impl Abort, points: &Points, text: &[u8]) -> usize {
     let text = str::from_utf8(text).ok().expect(rt, "a text");
     let mut seen = Seen::new();

@@ -1,4 +1,4 @@
-//! At which versions lookups are answered, and what is explained by these.
+//! The versions at which lookups are answered, and the explanation by these versions.
 
 use crate::runs::document;
 use crate::same::same;
@@ -11,7 +11,7 @@ use std::str;
 use std::sync::{Mutex, Wait};
 use std::thread::Threads;
 
-// A gate that writes down the versions that it is told.
+// A gate that records the versions with which it is called.
 #[derive(Drop)]
 struct Watching<'r, R: Wait> {
     rt: &'r R,
@@ -31,7 +31,7 @@ impl<R: Wait + Sync> Gate for Watching<'_, R> {
         true
     }
 
-    // What can't be written down is missed when the versions are read.
+    // A version that can't be recorded is missed when the versions are read.
     fn looked(&self, version: u64) {
         let _written = self.versions.lock(self.rt).push(version);
     }

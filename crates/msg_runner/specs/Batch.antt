@@ -1,4 +1,4 @@
--- What contracts see of what workers did beside the changes.
+-- The contracts' view of what workers did beside the changes.
 use Rattle.std.specs.Prelude.{ℕ, map, Vec}
 use Rattle.std.specs.Global.{Global}
 use Rattle.msg_image.specs.Plain.{item_parts}

@@ -1,4 +1,4 @@
-//! The arena of a run, and how many arrays its method caches have.
+//! The arena of a run, and the numbers of arrays of its method caches.
 
 ghost use Rattle.std.specs.Prelude.{◌≡◌, ◌<◌, IfOk};
 ghost use Rattle.msg_image.specs.Opened.{origin_of};
@@ -13,21 +13,21 @@ use std::alloc::{AllocError, Global};
 // The most arrays of capacity 4, 8, .., 1,024.
 const MOST: [u16; 9] = [2048, 512, 128, 64, 32, 16, 8, 4, 4];
 
-// How many more there are than two for each class reference, so that a collection is rare where
-// classes are few.
+// The number of arrays beyond two for each class reference, so that a collection is rare even if
+// there are few classes.
 const SPARE: usize = 16;
 
-// Whether a cache may come to an array of the capacity at this place: the one below it has no room
-// for an entry of each selector.
+// Whether a cache may need an array with the capacity at this place: the next lower capacity has no
+// room for an entry of each selector.
 fn is_needed(place: usize, selectors: usize) -> bool
     requires { place < 9 }
 {
     place == 0 || ((CAPACITIES[place - 1] / 4 * 3) as usize) < selectors
 }
 
-// The arrays of each capacity: two for each class reference and some to spare, and none of a
-// capacity that no cache of the image can need. A run makes and clears all of them, so a small
-// document has few.
+// The numbers of arrays of each capacity: two for each class reference and some to spare, and none
+// of a capacity that no cache of the image can need. A run makes and clears all of them, so a small
+// document gets few.
 fn arrays_for(image: &Image) -> [u16; 9] {
     let selectors = image.names().len();
     let wanted = 4 * image.class_count() as usize + SPARE;

@@ -11,19 +11,19 @@ ghost use Rattle.msg_eval.specs.Finder.{FindsAt};
 ghost use Rattle.msg_eval.specs.Points.{Rise, EndsAfter, last_of};
 
 use crate::gate::Gate;
-use msg_dispatch::{ArenaName, Recalling};
+use msg_dispatch::{ArenaName, CachingSender};
 use msg_eval::{Args, Finder, Reply, send};
 use msg_image::{Image, MAX_ITEMS};
 use msg_names::{ClassRef, ImpRef, Selector, Value};
 use std::sync::Wait;
 
-// A worker: its sender, the handle by which its misses wait, and the gate that it tells of its
+// A worker: its sender, the handle by which its misses wait, and the gate to which it reports its
 // pieces.
 #[derive(Drop)]
 pub(crate) struct Asking<'r, 'd, N: ArenaName, G: Gate, R: Wait> {
     pub(crate) rt: &'r R,
     pub(crate) gate: &'r G,
-    pub(crate) sender: Recalling<'d, N>,
+    pub(crate) sender: CachingSender<'d, N>,
 }
 
 impl<'r, 'd, N: ArenaName, G: Gate, R: Wait> Finder for Asking<'r, 'd, N, G, R> {
@@ -49,8 +49,8 @@ impl<'r, 'd, N: ArenaName, G: Gate, R: Wait> Finder for Asking<'r, 'd, N, G, R> 
         if !self.gate.is_watching() {
             return self.sender.find(self.rt, class, sel);
         }
-        // Where a change is made beside a lookup, its version isn't known, and it is repeated: more
-        // often than there are items never.
+        // if a change is made during a lookup, the version of the lookup isn't known, and it is
+        // repeated; it is never repeated more often than there are items
         let mut before = self.sender.refresh();
         for _try in 0..MAX_ITEMS {
             let imp = self.sender.find(self.rt, class, sel);
@@ -67,7 +67,7 @@ impl<'r, 'd, N: ArenaName, G: Gate, R: Wait> Finder for Asking<'r, 'd, N, G, R> 
 }
 
 impl<'r, 'd, N: ArenaName, G: Gate, R: Wait> Asking<'r, 'd, N, G, R> {
-    // The reply to a send, at points that rise from what the sender had seen.
+    // Returns the reply to a send, at points that rise from what the sender had seen.
     pub(crate) fn reply(
         &mut self,
         image: &Image,
@@ -86,7 +86,7 @@ impl<'r, 'd, N: ArenaName, G: Gate, R: Wait> Asking<'r, 'd, N, G, R> {
         send(self, image, receiver, sel, args)
     }
 
-    // The same, at points that have each change that was published before.
+    // Does the same, at points that include each change that was published before.
     pub(crate) fn reply_fresh(
         &mut self,
         image: &Image,

@@ -1,4 +1,4 @@
-//! A batch: items whose sends are shared out among workers, while the changes among them are made.
+//! A batch: items whose sends are distributed among workers, while the changes among them are made.
 
 ghost use Rattle.std.specs.Prelude.{◌≡◌, ◌≤◌, ◌<◌, ◌+◌, ◌^◌, ◌⊎◌, [], true};
 ghost use Rattle.std.specs.Prelude.{length, vec_len, IfOk, OnOk};
@@ -19,7 +19,7 @@ use std::sync::Wait;
 use std::thread::{Scope, Threads};
 
 impl<'r, G: Gate, R: Wait> Run<'r, G, R> {
-    // One worker, on the calling thread, and then the changes.
+    // Runs one worker on the calling thread, and then makes the changes.
     fn work_alone<'d, N: ArenaName>(
         &self,
         crew: &mut Crew<'d, N>,
@@ -52,14 +52,14 @@ impl<'r, G: Gate, R: Wait> Run<'r, G, R> {
             part.items,
             &mut batch.outcomes,
         );
-        let taken = crew.take_back(self.rt, done, &mut batch.shares);
+        let taken = crew.put_back(self.rt, done, &mut batch.shares);
         changed?;
         taken?;
         Ok(())
     }
 }
 
-// How many workers take part in so many pieces.
+// The number of workers that take part, for this number of pieces.
 fn used_for(workers: u32, pieces: usize) -> u32
     requires { 1 ≤ workers }
     ensures some { 1 ≤ result }
@@ -77,7 +77,7 @@ fn used_for(workers: u32, pieces: usize) -> u32
 }
 
 impl<'s, G: Gate, R: Threads + Wait + Sync> Run<'s, G, R> {
-    // The workers, in threads where they aren't one alone.
+    // Runs the workers, in threads unless there is only one.
     fn work<'e: 's, 'd: 's, N: ArenaName + Send + Sync + 's>(
         &self,
         scope: &'s Scope<'s, &'e ()>,
@@ -105,9 +105,8 @@ impl<'s, G: Gate, R: Threads + Wait + Sync> Run<'s, G, R> {
         }
     }
 
-    // Answers items, a line for each, and says how many pieces and changes there were. No more
-    // threads are started than there are pieces, and where there is one piece and no change none
-    // is.
+    // Answers items, a line for each, and returns the numbers of pieces and changes. It starts no
+    // more threads than there are pieces. If there is one piece and no change, it starts none.
     pub(crate) fn share_out<'e: 's, 'd: 's, N: ArenaName + Send + Sync + 's>(
         &self,
         scope: &'s Scope<'s, &'e ()>,

@@ -22,14 +22,14 @@ use std::sync::Wait;
 /// When a run makes the changes of its document.
 #[derive(Clone, Copy, Debug, PartialEq, Eq)]
 pub enum Changes {
-    /// Each after the sends before it and before those after it.
+    /// Each change is made after the sends before it and before the sends after it.
     Between,
-    /// In their order, while the sends are answered.
+    /// The changes are made in their order, while the sends are answered.
     Beside,
 }
 
 impl Changes {
-    // When a program makes them.
+    // When a program makes the changes.
     pub(crate) fn of(program: Program) -> Changes
         ensures { result ≡ changes_of program }
     {
@@ -80,7 +80,7 @@ fn change_as_one<'d, N: ArenaName, R: Wait>(
     }
 }
 
-// Makes an item's changes, and says what became of them.
+// Makes an item's changes, and returns their outcome.
 pub(crate) fn change_by<'d, N: ArenaName, R: Wait>(
     alloc: Global,
     rt: &R,
@@ -99,8 +99,8 @@ pub(crate) fn change_by<'d, N: ArenaName, R: Wait>(
     }
 }
 
-// Makes the changes among items, in order, and says what became of each item's. The first such item
-// has the number `first`.
+// Makes the changes among items, in order, and returns the outcome of each item. The first such
+// item has the number `first`.
 pub(crate) fn make_changes<'d, N: ArenaName, G: Gate, R: Wait>(
     alloc: Global,
     rt: &R,

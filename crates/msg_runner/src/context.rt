@@ -1,4 +1,4 @@
-//! What a run has at hand.
+//! The context of a run.
 
 use crate::changes::Changes;
 use crate::gate::Gate;
@@ -6,8 +6,8 @@ use msg_answers::Deal;
 use std::alloc::{AllocError, Global};
 use std::sync::Wait;
 
-// A run: the handle by which it waits and starts threads, its allocator, the gate that it tells of
-// its progress, when it makes the changes, and how sends are shared out.
+// A run: the handle by which it waits and starts threads, its allocator, the gate to which it
+// reports its progress, when it makes the changes, and how sends are distributed.
 pub(crate) struct Run<'r, G: Gate, R: Wait> {
     pub(crate) rt: &'r R,
     pub(crate) alloc: Global,

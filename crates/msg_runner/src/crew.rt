@@ -3,7 +3,7 @@
 ghost use Rattle.std.specs.Prelude.{◌≡◌, ◌+◌, ◌++◌, ◌∷◌, [], vec_len, IfOk, OnOk, MatchResult};
 ghost use Rattle.msg_tables.specs.History.{BeginsWith, empty};
 
-use msg_dispatch::{ArenaName, Changer, Dispatcher, Recalling};
+use msg_dispatch::{ArenaName, CachingSender, Changer, Dispatcher};
 use msg_eval::Reply;
 use std::alloc::{AllocError, Global};
 use std::sync::Wait;
@@ -12,23 +12,23 @@ use std::sync::Wait;
 #[derive(Drop)]
 pub(crate) struct Crew<'d, N: ArenaName> {
     pub(crate) changer: Changer<'d, N>,
-    pub(crate) senders: Vec<Recalling<'d, N>>,
+    pub(crate) senders: Vec<CachingSender<'d, N>>,
 }
 
-// A sender after a batch, with its replies, where there was memory for them.
+// A sender after a batch, with its replies, if there was memory for them.
 #[derive(Drop)]
 pub(crate) struct Done<'d, N: ArenaName> {
-    pub(crate) sender: Recalling<'d, N>,
+    pub(crate) sender: CachingSender<'d, N>,
     pub(crate) replies: Result<Vec<Reply>, AllocError>,
 }
 
-// So many senders.
+// Makes this number of senders.
 fn senders_of<'d, N: ArenaName, R: Wait>(
     rt: &R,
     alloc: Global,
     dispatcher: &'d Dispatcher<N>,
     count: u32,
-) -> Result<Vec<Recalling<'d, N>>, AllocError>
+) -> Result<Vec<CachingSender<'d, N>>, AllocError>
     ensures { IfOk result (λ senders. vec_len senders ≡ count) }
 {
     let mut senders = Vec::new(alloc);
@@ -36,16 +36,16 @@ fn senders_of<'d, N: ArenaName, R: Wait>(
         let Ok(sender) = dispatcher.sender(rt) else {
             return Err(AllocError);
         };
-        let Ok(recalling) = Recalling::new(alloc, sender) else {
+        let Ok(caching) = CachingSender::new(alloc, sender) else {
             return Err(AllocError);
         };
-        senders.push(recalling)?;
+        senders.push(caching)?;
     }
     Ok(senders)
 }
 
 impl<'d, N: ArenaName> Crew<'d, N> {
-    // A changer, and so many senders.
+    // Makes a changer and this number of senders.
     pub(crate) fn of<R: Wait>(
         rt: &R,
         alloc: Global,
@@ -62,8 +62,8 @@ impl<'d, N: ArenaName> Crew<'d, N> {
         }
     }
 
-    // A sender, which meets the changer before its work.
-    pub(crate) fn send_out<R: Wait>(&mut self, rt: &R) -> Result<Recalling<'d, N>, AllocError>
+    // Takes a sender out, which meets the changer before its work.
+    pub(crate) fn send_out<R: Wait>(&mut self, rt: &R) -> Result<CachingSender<'d, N>, AllocError>
         ensures same { self.new.changer ≡ self.old.changer }
         ensures seen { IfOk result (λ s. s.sender.seen.front ≡ self.old.changer) }
         ensures senders { OnOk result (vec_len self.new.senders + 1 ≡ vec_len self.old.senders) }
@@ -75,8 +75,8 @@ impl<'d, N: ArenaName> Crew<'d, N> {
         Ok(sender)
     }
 
-    // Takes a sender back, which meets the changer after its work, and its replies.
-    pub(crate) fn take_back<R: Wait>(
+    // Puts a sender back, which meets the changer after its work, with its replies.
+    pub(crate) fn put_back<R: Wait>(
         &mut self,
         rt: &R,
         done: Done<'d, N>,

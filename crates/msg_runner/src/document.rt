@@ -33,15 +33,15 @@ use std::sync::Wait;
 use std::thread;
 use std::thread::{Scope, Threads};
 
-// Whether a part has something for a second worker: more than one piece of sends.
+// Whether a part has work for a second worker: more than one piece of sends.
 fn is_shared(part: Part<'_>) -> bool {
     part.deal.workers != 1 && part.items.len() > part.deal.cut as usize
 }
 
 impl<'s, G: Gate, R: Threads + Wait + Sync> Run<'s, G, R> {
     // Writes the lines of a part: of the sends before the next item of changes, or of one such
-    // item. The calling thread answers by itself where it is of changes, one worker takes part, or
-    // there is one piece.
+    // item. The calling thread answers alone if the part is an item of changes, if only one worker
+    // takes part, or if there is one piece.
     fn write_part<'e: 's, 'd: 's, N: ArenaName + Send + Sync + 's>(
         &self,
         scope: &'s Scope<'s, &'e ()>,
@@ -76,8 +76,8 @@ impl<'s, G: Gate, R: Threads + Wait + Sync> Run<'s, G, R> {
         Ok(Counts { pieces, changes: 0 })
     }
 
-    // The lines of all items: of one batch where the changes are made beside the sends, else part
-    // by part.
+    // Writes the lines of all items. If the changes are made while the sends are answered, they are
+    // one batch. Otherwise they are written part by part.
     fn write_parts<'e: 's, 'd: 's, N: ArenaName + Send + Sync + 's>(
         &self,
         scope: &'s Scope<'s, &'e ()>,
@@ -105,7 +105,7 @@ impl<'s, G: Gate, R: Threads + Wait + Sync> Run<'s, G, R> {
         Ok(text)
     }
 
-    // The lines of a document, by a crew of its own, with its threads in one scope.
+    // Writes the lines of a document, by a crew of its own, with its threads in one scope.
     fn over_scope<N: ArenaName + Send + Sync>(
         &self,
         dispatcher: &'s Dispatcher<N>,
@@ -145,7 +145,7 @@ impl<'s, G: Gate, R: Threads + Wait + Sync> Run<'s, G, R> {
 }
 
 impl<'r, G: Gate, R: Threads + Wait + Sync> Run<'r, G, R> {
-    // The lines of a document, by a dispatcher over its arena.
+    // Writes the lines of a document, by a dispatcher over its arena.
     fn over_dispatcher<N: ArenaName + Send + Sync>(
         &self,
         arena: Arena,
@@ -173,12 +173,12 @@ impl<'r, G: Gate, R: Threads + Wait + Sync> Run<'r, G, R> {
     }
 }
 
-/// Answers a document's items in their order: a line for each, of which the text is whole.
+/// Answers a document's items in their order, with a line for each. The text is complete.
 ///
 /// With `Changes::Between` the text is that of one thread which takes the items one by one and
 /// searches the method lists, for every number of workers and every cut. No more threads are
-/// started than there are pieces of `cut` sends, and one worker is the calling thread. Only memory
-/// can fail.
+/// started than there are pieces of `cut` sends. If there is one worker, it is the calling thread.
+/// The only error is a lack of memory.
 pub fn answer_document<G: Gate, T: Threads + Wait + Sync>(
     rt: &T,
     alloc: Global,

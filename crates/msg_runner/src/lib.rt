@@ -1,4 +1,4 @@
-//! What the programs `msgrun` and `msgbeside` do: runs, from bytes to bytes.
+//! The runs of the programs `msgrun` and `msgbeside`, from bytes to bytes.
 #![tactic(auto)]
 
 mod arena;

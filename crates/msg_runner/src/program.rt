@@ -1,4 +1,4 @@
-//! What the programs do, from the words of the command line to the exit status.
+//! The programs' work, from the words of the command line to the exit status.
 
 ghost use Rattle.std.specs.Prelude.{◌≡◌, ◌≢◌, ◌⊎◌, List, ℕ, false, map, string_bytes, Err};
 ghost use Rattle.std.specs.Prelude.{IfErr, IfSome, OnOk};
@@ -16,7 +16,7 @@ use std::env::Env;
 use std::sync::Wait;
 use std::thread::Threads;
 
-// The run that the words ask for. No fault stands for wrong use.
+// The run that the words ask for. An error without a fault means wrong use.
 fn run_asked<R: Source, W: Sink, T: Threads + Wait + Sync>(
     rt: &T,
     alloc: Global,
@@ -49,9 +49,9 @@ fn run_asked<R: Source, W: Sink, T: Threads + Wait + Sync>(
     }
 }
 
-/// Answers a document as the words of a command line ask, says in a line why where that can't be,
-/// and gives the exit status, with which the process is to end: what the document takes stays
-/// taken.
+/// Answers a document as the words of a command line ask, or says in a line why that isn't
+/// possible. Returns the exit status, with which the process has to end: the memory of the document
+/// is not freed.
 pub fn run_words<R: Source, W: Sink, C: Sink, T: Threads + Wait + Sync>(
     rt: &T,
     alloc: Global,
@@ -81,10 +81,10 @@ pub fn run_words<R: Source, W: Sink, C: Sink, T: Threads + Wait + Sync>(
     }
 }
 
-/// What a program does: it answers a document as the words that it was started with ask, and gives
-/// the exit status, with which the process is to end.
+/// Does a program's work: it answers a document as the words ask with which it was started. Returns
+/// the exit status, with which the process has to end.
 ///
-/// `whole` names no words, since no clause says what `words` gives.
+/// `whole` names no words, because no clause says what `words` returns.
 pub fn run_program<R: Source, W: Sink, C: Sink, T: Env + Alloc<A = Global> + Threads + Wait + Sync>(
     rt: &T,
     program: Program,

@@ -18,7 +18,7 @@ use std::mem;
 use std::sync::Wait;
 use std::thread::Threads;
 
-// How a run is to go.
+// The settings of a run.
 #[derive(Clone, Copy)]
 pub(crate) struct Asked {
     pub(crate) changes: Changes,
@@ -26,7 +26,7 @@ pub(crate) struct Asked {
     pub(crate) cut: u32,
 }
 
-// Gives back what a document takes, unless the process's end will.
+// Frees what a document takes, unless the end of the process will.
 fn leave<G: Gate>(document: Document, gate: &G) {
     if gate.is_last() {
         mem::forget(document);
@@ -35,7 +35,7 @@ fn leave<G: Gate>(document: Document, gate: &G) {
     }
 }
 
-// Reads a document, answers it, and writes its lines when they are whole.
+// Reads a document, answers it, and writes its lines when they are complete.
 pub(crate) fn run_as<R: Source, W: Sink, G: Gate, T: Threads + Wait + Sync>(
     rt: &T,
     alloc: Global,
@@ -76,8 +76,8 @@ pub(crate) fn run_as<R: Source, W: Sink, G: Gate, T: Threads + Wait + Sync>(
 /// Reads a document, answers its items in their order, and writes a line for each answer.
 ///
 /// The lines are those of one thread that takes the items one by one and searches the method lists,
-/// for every number of workers and every cut. The text is whole before its first byte is written. A
-/// batch of one piece is answered by the calling thread.
+/// for every number of workers and every cut. The text is complete before its first byte is
+/// written. The calling thread answers a batch of one piece.
 pub fn run<R: Source, W: Sink, G: Gate, T: Threads + Wait + Sync>(
     rt: &T,
     alloc: Global,
@@ -112,8 +112,8 @@ pub fn run<R: Source, W: Sink, G: Gate, T: Threads + Wait + Sync>(
     run_as(rt, alloc, gate, source, sink, asked)
 }
 
-/// Reads a document, answers all its sends by workers while it makes the changes in their order,
-/// and writes a line for each item.
+/// Reads a document and writes a line for each item. Workers answer all its sends while it makes
+/// the changes in their order.
 ///
 /// Each worker's sends are answered at points of one history that rise.
 pub fn run_beside<R: Source, W: Sink, G: Gate, T: Threads + Wait + Sync>(

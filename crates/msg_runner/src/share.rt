@@ -17,7 +17,7 @@ use msg_names::{Selector, Value};
 use std::alloc::{AllocError, Global};
 use std::sync::Wait;
 
-// Answers a send, where its place is the worker's.
+// Answers a send, if its place is the worker's.
 fn reply_at<'r, 'd, N: ArenaName, G: Gate, R: Wait>(
     asking: &mut Asking<'r, 'd, N, G, R>,
     replies: &mut Vec<Reply>,

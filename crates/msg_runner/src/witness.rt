@@ -1,4 +1,4 @@
-//! At which versions a run beside changes answers its lookups.
+//! The versions at which a run beside changes answers its lookups.
 
 ghost use Rattle.std.specs.Prelude.{◌≤◌, length};
 ghost use Rattle.msg_image.specs.DocumentParts.{document_parts};
@@ -12,18 +12,18 @@ use std::alloc::{AllocError, Global};
 use std::sync::{Mutex, Wait};
 use std::thread::Threads;
 
-// How many sends make a piece: of one worker it says nothing.
+// The number of sends in a piece. With one worker it has no effect.
 const CUT: u32 = 64;
 
 // The versions of a worker's lookups.
 #[derive(Drop)]
 struct Versions {
     all: Vec<u64>,
-    // Whether there was memory for each.
+    // Whether there was memory for all of them.
     are_whole: bool,
 }
 
-// A gate that notes them.
+// The gate that notes them.
 #[derive(Drop)]
 struct Witness<'r, R: Wait> {
     rt: &'r R,
@@ -51,11 +51,12 @@ impl<R: Wait + Sync> Gate for Witness<'_, R> {
     }
 }
 
-/// Answers a document by one worker, which makes its changes beside its sends, and says at which
-/// version each lookup was answered, in their order: how many items of changes were made before it.
+/// Answers a document by one worker, and makes its changes while the sends are answered. Also
+/// returns the version at which each lookup was answered, in their order. A version is the number
+/// of items of changes that were made before the lookup.
 ///
-/// The versions are what the run was seen to do: no clause says more of them. The explanation that
-/// `explain_beside` of `msg_reasons` makes of them is right of whatever versions it is given.
+/// The versions are what was observed in the run: no clause says more about them. The explanation
+/// that `explain_beside` of `msg_reasons` makes from them is right for any versions.
 pub fn versions_beside<T: Threads + Wait + Sync>(
     rt: &T,
     alloc: Global,

@@ -1,4 +1,4 @@
-//! Workers in threads, beside the changes.
+//! Workers in threads, concurrently with the changes.
 
 ghost use Rattle.std.specs.Prelude.{◌≡◌, ◌≤◌, ◌<◌, ◌+◌, ◌^◌, [], ℕ, map, vec_len, IfOk, OnOk};
 ghost use Rattle.std.specs.Thread.{IsSync};
@@ -16,24 +16,24 @@ use crate::crew::{Crew, Done};
 use crate::gate::Gate;
 use crate::share::reply_share;
 use msg_answers::{Outcome, Part, Share};
-use msg_dispatch::{ArenaName, Recalling};
+use msg_dispatch::{ArenaName, CachingSender};
 use msg_eval::Reply;
 use std::alloc::{AllocError, Global};
 use std::snapshot::Snapshot;
 use std::sync::Wait;
 use std::thread::{Promise, PromisedHandle, Scope, Threads};
 
-// Each worker's replies, and what became of the changes.
+// Each worker's replies, and the outcome of the changes.
 #[derive(Drop)]
 pub(crate) struct Batch {
     pub(crate) shares: Vec<Vec<Reply>>,
     pub(crate) outcomes: Vec<Outcome>,
 }
 
-// That a worker answers its share.
+// The job of a worker: it answers its share.
 #[derive(Drop)]
 pub(crate) struct AnswersShare<'a, 'd, N: ArenaName> {
-    pub(crate) was: Snapshot<Recalling<'d, N>>,
+    pub(crate) was: Snapshot<CachingSender<'d, N>>,
     pub(crate) share: Share<'a>,
 }
 
@@ -49,7 +49,7 @@ pub(crate) fn work_share<'d, N: ArenaName, G: Gate, R: Wait>(
     rt: &R,
     alloc: Global,
     gate: &G,
-    sender: Recalling<'d, N>,
+    sender: CachingSender<'d, N>,
     share: Share<'_>,
 ) -> Done<'d, N>
     requires image { sender.sender.seen.front.origin ≡ origin_of share.part.image.now }
@@ -67,7 +67,7 @@ pub(crate) fn work_share<'d, N: ArenaName, G: Gate, R: Wait>(
 fn start<'s, 'e: 's, 'd: 's, N: ArenaName + Send + Sync + 's, G: Gate, R: Wait + Sync>(
     run: &Run<'s, G, R>,
     scope: &Scope<'s, &'e ()>,
-    sender: Recalling<'d, N>,
+    sender: CachingSender<'d, N>,
     share: Share<'s>,
 ) -> Result<PromisedHandle<Done<'d, N>, AnswersShare<'s, 'd, N>>, AllocError>
     requires image { sender.sender.seen.front.origin ≡ origin_of share.part.image.now }
@@ -145,7 +145,7 @@ pub(crate) fn work_beside<
     };
     let worker = start(run, scope, sender, share)?;
     let others = work_beside(run, scope, crew, me, part, sends, batch);
-    let taken = crew.take_back(run.rt, worker.join(run.rt), &mut batch.shares);
+    let taken = crew.put_back(run.rt, worker.join(run.rt), &mut batch.shares);
     others?;
     taken?;
     Ok(())

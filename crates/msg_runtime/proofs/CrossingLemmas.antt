@@ -1,25 +1,18 @@
--- That what stands behind the runtime lock may go to another thread.
+-- That what is behind the runtime lock may go to another thread.
 use denote.Param.Send.{IsSend, sendable}
 use Rattle.std.proofs.Crossing.{crosses}
 use Rattle.std.proofs.MapsCrossing as maps
 use Rattle.msg_cache.proofs.CrossingLemmas.{Keeper-send}
+use Rattle.msg_rows.proofs.CrossingLemmas.{Lists-send}
 use Rattle.std.specs.contracts.snapshot.Snapshot as Snapshot
 use Rattle.msg_cache.specs.contracts.arena.Arena as Arena
 use Rattle.msg_tables.specs.contracts.tables.Tables as Tables
-use Rattle.msg_tables.specs.contracts.indexed_rows.IndexedRows as Indexed
-use Rattle.msg_tables.specs.contracts.rows.MethodRows as Rows
 use Rattle.msg_tables.specs.contracts.below.Below as Below
 use Rattle.msg_tables.specs.contracts.entry.Written as Written
 use Rattle.msg_runtime.specs.contracts.runtime.Runtime as Runtime
 
-Indexed-send : IsSend Indexed.the_row
-Indexed-send = search (sendable, crosses, maps.crosses) depth 30
-
-Rows-send : IsSend Rows.the_row
-Rows-send = search (Indexed-send, sendable, crosses) depth 30
-
 Tables-send : IsSend Tables.the_row
-Tables-send = search (Rows-send, sendable, crosses, maps.crosses) depth 30
+Tables-send = search (Lists-send, sendable, crosses, maps.crosses) depth 30
 
 Below-send : IsSend Below.the_row
 Below-send = search (sendable, crosses, maps.crosses) depth 30

@@ -35,13 +35,13 @@ made_alone old new x n made count = (accepted-alone old x made.accepted, made.hi
 pub refused_alone : (h : History) (x : Change) (r : Refused) → AreRefused (x ∷ []) h r → IsRefusedAt h x r.fault
 refused_alone h x r refused = λ other. some-alone (refusal (log h) x) r.place r.fault (sym (refused-one_at (log h) x) ∙ refused.fault other)
 
--- where memory was wanting for it, it was accepted
+-- if memory was lacking for it, it was accepted
 pub wanting_alone : (h : History) (x : Change) (r : Refused) → AreRefused (x ∷ []) h r → r.fault ≡ Memory → IsAccepted h x
 wanting_alone h x r refused memory =
     let first : r.place ≡ 0 = omega (arith, refused.place) in
     accepted-alone h x (subst (λ n. refused_from 0 (log h) (take (n + 1) (x ∷ [])) ≡ None) first (refused.memory memory))
 
--- a change that adds no row wants none, where there is room for two entries
+-- a change that adds no row needs no memory, if there is room for two entries
 pub no_row_alone : (v : RuntimeView) (x : Change) (r : Refused) → AreRefused (x ∷ []) v.keeper.history r → HasRoomForRows v → WantsRoom v (x ∷ []) r → r.fault ≡ Memory → adds_no_row x ≡ true
     → v.written.room < OPENING_ENTRIES
 no_row_alone v x r refused rows wants memory none = split (cases_lt v.written.room 2)

@@ -20,7 +20,7 @@ rests_first k senders rested e given = record {
     zeros : (n : ℕ) → slice_index rested n ≡ 0
     zeros n = ap (λ xs. slice_index xs n) e ∙ same_everywhere senders n 0
 
--- where no seat changes hands, and no change is lost
+-- if no seat changes hands, and no change is lost
 pub rests_on : (k k' : KeeperView) (rested : List ℕ) → k'.given ≡ k.given → k'.since ≡ k.since → size k.history ≤ size k'.history → AreRested k rested → AreRested k' rested
 rests_on k k' rested given since longer r = record {
   count = r.count ∙ ap length (sym given);

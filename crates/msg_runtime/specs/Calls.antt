@@ -10,7 +10,7 @@ use Rattle.msg_tables.specs.declared.change.Change.{Change}
 use Rattle.msg_tables.specs.Log.{table}
 use Rattle.msg_tables.specs.RoomLaws.{HaveRoomFor, LackRoomFor}
 use Rattle.msg_tables.specs.Undo.{undo_all}
-use Rattle.msg_tables.specs.RowList.{HaveGrown}
+use Rattle.msg_rows.specs.RowList.{HaveGrown}
 use Rattle.msg_tables.specs.declared.apply_all.Refused.{Refused}
 use Rattle.msg_tables.specs.declared.fault.ChangeFault.TheVariants.{Memory}
 use Rattle.msg_runtime.specs.declared.unmade.Unmade.{Unmade}
@@ -32,11 +32,11 @@ HasKeeper k r = (r.keeper ≡ keeper_view k) × (r.remembered ≡ keeper_remembe
 abbrev pub CachesNumber : ClassRef → ℕ → ℕ → SenderView → RuntimeView → RuntimeView → Type 0
 CachesNumber c s i v r r' = AnswersMiss (layout r.arena) r.remembered c s i v r.keeper r'.keeper r.report r'.report
 
--- the same of a selector and an implementation
+-- the same for a selector and an implementation
 abbrev pub CachesAnswer : ClassRef → Selector → ImpRef → SenderView → RuntimeView → RuntimeView → Type 0
 CachesAnswer c s i v r r' = CachesNumber c (selector_number s) (imp_number i) v r r'
 
--- beside those that were marked the class references are that some of these changes affect
+-- the class references that some of these changes affect are marked, in addition to those that were
 abbrev pub MarksAllReached : RuntimeView → List Change → List Bool → List Bool → Type 0
 MarksAllReached r xs old new = MarksAffectedByAll (classes r.arena) (log r.keeper.history) xs old new
 
@@ -61,11 +61,11 @@ HasRoomForRows r = HaveRoomFor r.rooms (log r.keeper.history) []
 abbrev pub LacksRoomFor : RuntimeView → List Change → Type 0
 LacksRoomFor r xs = LackRoomFor r.rooms r.written.room (log r.keeper.history) xs
 
--- so it was, where memory was wanting, for those before the place that is told and that one
+-- if memory was lacking, this held for the changes before the reported place and for that one
 abbrev pub WantsRoom : RuntimeView → List Change → Refused → Type 0
 WantsRoom r xs refused = refused.fault ≡ Memory → LacksRoomFor r (take (refused.place + 1) xs)
 
--- where that is why it wasn't made
+-- the same, if that is why the list wasn't made
 abbrev pub WantsRoomIf : RuntimeView → List Change → Unmade → Type 0
 WantsRoomIf r xs (unmade.Refused refused) = WantsRoom r xs refused
 WantsRoomIf r xs (unmade.TooLong n) = Unit {0}
@@ -88,7 +88,7 @@ LendsTurnIf b r r' = r'.keeper ≡ cond b (lent r.keeper) r.keeper
 abbrev pub CountsRefusalUnless : Bool → RuntimeView → RuntimeView → Type 0
 CountsRefusalUnless b r r' = r'.report ≡ cond b r.report (after_refusal r.report)
 
--- a sender of this view rests: of its number it is noted how many changes there were
+-- a sender of this view rests: the number of changes is noted for its number
 abbrev pub RestsAs : SenderView → RuntimeView → RuntimeView → Type 0
 RestsAs v r r' = r'.rested ≡ slice_set r.rested v.number (length r.keeper.history.changes)
 

@@ -1,4 +1,4 @@
--- What becomes of a change at a history.
+-- The outcome of a change at a history.
 use Rattle.std.specs.Prelude.{◌≡◌, ◌≢◌, ◌<◌, ◌∷◌, [], ℕ, List, Some, None, length}
 use Rattle.msg_tables.specs.History.{History, and_then, log}
 use Rattle.msg_tables.specs.Log.{table}
@@ -12,7 +12,7 @@ use Rattle.msg_tables.specs.declared.fault.ChangeFault.TheVariants.{Memory}
 use Rattle.msg_runtime.specs.declared.unmade.Unmade.{Unmade}
 use Rattle.msg_runtime.specs.declared.unmade.Unmade.TheVariants.{Refused, TooLong}
 
--- nothing speaks against it
+-- nothing forbids it
 abbrev pub IsAccepted : History → Change → Type 0
 IsAccepted h x = refusal (log h) x ≡ None
 
@@ -20,16 +20,16 @@ IsAccepted h x = refusal (log h) x ≡ None
 abbrev pub IsRefusedFor : History → Change → ChangeFault → Type 0
 IsRefusedFor h x fault = refusal (log h) x ≡ Some fault
 
--- so it is, where the fault isn't want of memory
+-- the same, if the fault isn't a lack of memory
 abbrev pub IsRefusedAt : History → Change → ChangeFault → Type 0
 IsRefusedAt h x fault = fault ≢ Memory → IsRefusedFor h x fault
 
--- it was accepted, the history is longer by it, and so many times changes were made then
+-- it was accepted, the history has it added, and changes were then made this number of times
 abbrev pub IsMadeAt : History → Change → History → ℕ → Type 0
 IsMadeAt old x new count = IsAccepted old x × (new ≡ and_then old (x ∷ [])) × (count ≡ length new.changes)
 
--- why a list isn't made at a history: one of it is refused, or its way back has this many changes,
--- which are more than the most that it may have
+-- why a list isn't made at a history: one change of it is refused, or its way back has this number
+-- of changes, which is more than it may have
 abbrev pub IsUnmade : List Change → History → ℕ → Unmade → Type 0
 IsUnmade xs h most (Refused r) = AreRefused xs h r
 IsUnmade xs h most (TooLong n) = (refused_from 0 (log h) xs ≡ None) × (n ≡ length (undo_all (table (log h)) xs)) × (most < n)

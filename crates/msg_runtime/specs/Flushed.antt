@@ -20,7 +20,7 @@ AreFlushed a t k is_meant = (h : Log) → StandsAt t h → (c : ClassRef) → is
 abbrev pub IsFlushedBelow : ArenaView → TablesView → Keeper → ClassRef → Type 0
 IsFlushedBelow a t k place = AreFlushed a t k (λ h c. is_member place (chain_at h c))
 
--- the same of those of the first classes
+-- the same for those of the first classes
 abbrev pub FirstAreFlushed : ℕ → ArenaView → TablesView → Keeper → (Log → ClassRef → Bool) → Type 0
 FirstAreFlushed classes a t k is_meant = (h : Log) → StandsAt t h → (c : ClassRef) → c.class < classes → is_meant h c ≡ true → IsCold a k c
 

@@ -8,14 +8,14 @@ use Rattle.msg_runtime.specs.Resting.{AreRested}
 use Rattle.msg_runtime.specs.View.{RuntimeView}
 use Rattle.msg_runtime.specs.declared.runtime.Runtime.TheInside.{Inside}
 
--- what contracts see of a runtime
+-- the contracts' view of a runtime
 abbrev pub view_of : Inside → RuntimeView
 view_of r = record { arena = r.arena.value; keeper = keeper_view r.keeper; remembered = keeper_remembered r.keeper; report = keeper_report r.keeper; rooms = r.tables.rooms; written = r.written; rested = r.rested.items }
 
 -- the invariant of runtimes
 pub record AreTogether (r : Inside) : Type 0 where
   pub keeper : IsKeeperOf r.arena.value r.keeper
-  -- the tables stand at the keeper's history, which is of the arena's origin
+  -- the tables are at the keeper's history, which is of the arena's origin
   pub tables : StandsAt r.tables (log (keeper_history r.keeper))
   pub origin : (keeper_history r.keeper).origin ≡ r.arena.value.key.origin
   pub classes : r.classes ≡ class_total (keeper_history r.keeper).origin

@@ -8,7 +8,7 @@ use Rattle.msg_tables.specs.History.{History}
 use Rattle.msg_model.specs.State.{Layout, awaits}
 use Rattle.msg_cache.specs.Ours as cache
 use Rattle.msg_cache.specs.Counts.{CountsFill}
-use Rattle.msg_cache.specs.Keeping.{Fills, way_of}
+use Rattle.msg_cache.specs.Keeping.{Fills, placement_of}
 use Rattle.msg_cache.specs.Plays.{given_again, given_out, newcomer}
 use Rattle.msg_cache.specs.Views.{ArenaView, layout}
 use Rattle.msg_cache.specs.declared.answer.Filled.{Filled}
@@ -21,7 +21,7 @@ use Rattle.msg_cache.specs.declared.view.SenderView.{SenderView}
 abbrev pub IsKeeperOf : ArenaView → Keeper → Type 0
 IsKeeperOf a k = cache.IsOf a k
 
--- where the keeper stands
+-- where the keeper is
 abbrev pub keeper_history : Keeper → History
 keeper_history k = (cache.view k).history
 
@@ -44,7 +44,7 @@ keeper_report k = k.report
 -- some fill of what was found took the keeper's view k to k', and was counted from the report r to
 -- r'
 abbrev pub IsFilled : Layout → List ℕ → ClassRef → ℕ → ℕ → KeeperView → KeeperView → Report → Report → Type 0
-IsFilled z remembered c s i k k' r r' = (answer : Filled) × Fills z remembered c s i k k' answer × CountsFill (way_of z remembered k c s) answer r r'
+IsFilled z remembered c s i k k' r r' = (answer : Filled) × Fills z remembered c s i k k' answer × CountsFill (placement_of z remembered k c s) answer r r'
 
 -- what was found was filled in by the keeper, and counted
 abbrev pub CachesFound : ArenaView → ClassRef → Selector → ImpRef → Keeper → Keeper → Type 0

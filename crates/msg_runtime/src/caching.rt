@@ -1,4 +1,4 @@
-//! Caching what was looked up.
+//! Caches what was looked up.
 
 ghost use Rattle.std.specs.Prelude.{◌≡◌, ◌<◌};
 ghost use Rattle.msg_cache.specs.Views.{IsFoundAt, classes};
@@ -8,7 +8,7 @@ use msg_cache::laws::a_fill_changes_caches_alone;
 use msg_cache::{Arena, Keeper};
 use msg_names::{ClassRef, ImpRef, Selector};
 
-// Caches what was found for a selector in a class reference, where there is room for it.
+// Caches what was found for a selector in a class reference, if there is room for it.
 pub(crate) fn cache_found(
     keeper: &mut Keeper,
     arena: &Arena,

@@ -10,7 +10,7 @@ use crate::runtime::Runtime;
 use msg_names::{ClassRef, ImpRef, Selector};
 use msg_tables::laws::tables_are_of_their_origin;
 
-// Writes classes into a room, if it has as many places, and returns how many there are.
+// Writes classes into `room` if it has as many places, and returns their number.
 fn show(found: &[u32], room: &mut [u32]) -> usize
     ensures { AreShown found.now room.old room.new result }
 {
@@ -20,7 +20,7 @@ fn show(found: &[u32], room: &mut [u32]) -> usize
     found.len()
 }
 
-// All but the first.
+// All classes but the first.
 fn without_first(found: &[u32]) -> &[u32]
     ensures { result.now ≡ drop 1 found.now }
 {
@@ -31,8 +31,8 @@ fn without_first(found: &[u32]) -> &[u32]
 }
 
 impl Runtime {
-    /// The methods that a class reference has itself, oldest first: of those of one selector a
-    /// lookup finds the last.
+    /// The methods that a class reference has itself, oldest first. Of several methods with one
+    /// selector a lookup finds the last.
     pub fn methods(&self, class: ClassRef) -> &[(Selector, ImpRef)]
         requires class { class.class < classes self.now.arena }
         ensures { HasMethods (log self.now.keeper.history) class result.now }
@@ -42,7 +42,7 @@ impl Runtime {
     }
 
     /// Writes the classes that are made, each after its superclass, if `room` has as many places.
-    /// Returns how many there are.
+    /// Returns their number.
     pub fn show_classes(&self, room: &mut [u32]) -> usize
         ensures { ShowsClasses self.now.keeper.history room.old room.new result }
     {
@@ -50,8 +50,8 @@ impl Runtime {
         show(self.tables.classes(), room)
     }
 
-    /// Writes the classes below a class, if `room` has as many places. Returns how many there are.
-    /// It costs a walk over these.
+    /// Writes the classes below a class, if `room` has as many places. Returns their number. It
+    /// costs a walk over these classes.
     pub fn show_below(&mut self, class: u32, room: &mut [u32]) -> usize
         requires class { class < classes self.old.arena }
         ensures same { self.new ≡ self.old }

@@ -31,7 +31,7 @@ pub(crate) fn flush_class(keeper: &mut Keeper, arena: &Arena, class: u32, own: b
     }
 }
 
-// Flushes the caches of some class references. No other class is looked at.
+// Flushes the caches of some class references. It looks at no other class.
 fn flush_each(keeper: &mut Keeper, arena: &Arena, below: &Below)
     requires arena { IsKeeperOf arena.now keeper.old }
     requires classes { AreClasses below.now.classes (keeper_history keeper.old).origin }

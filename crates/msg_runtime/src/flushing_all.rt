@@ -1,4 +1,4 @@
-//! Which caches a list of changes flushes.
+//! The caches that a list of changes flushes.
 
 ghost use Rattle.std.specs.Prelude.{◌≡◌, ◌≤◌, [], ◌∷◌, All, IfSome, length};
 ghost use Rattle.msg_tables.specs.ChangeList.{change_of};
@@ -14,9 +14,9 @@ use msg_cache::{Arena, Keeper};
 use msg_names::ClassRef;
 use msg_tables::{Below, ChangeList, ChangeRef, Entry, Tables, Written};
 
-// Flushes the caches that an entry tells of: of a class that was made or disposed of, or of where
-// rows were written and of all below, unless these were flushed last. Answers what was flushed last
-// then.
+// Flushes the caches that an entry affects: those of a class that was made or disposed of, or those
+// of the class reference where rows were written and of all below. It skips the latter if they were
+// flushed last. Returns what is then flushed last.
 fn flush_entry(
     keeper: &mut Keeper,
     arena: &Arena,
@@ -51,10 +51,11 @@ fn flush_entry(
     Some(place)
 }
 
-// Flushes the caches that a list of changes reaches, which were just made: of the classes that were
-// made or disposed of, and of where rows were written and of all below, as the tables are now. What
-// stood below a place when a change wrote there still does, but for classes that were disposed of.
-// Of entries at one place that follow one another the first alone has its classes gone over.
+// Flushes the caches that a list of changes affects, which were just made. These are the caches of
+// the classes that were made or disposed of, and of the places where rows were written and of all
+// below, by the present tables. What was below a place when a change wrote there still is, except
+// for classes that were disposed of. If several entries at one place follow one another, the
+// classes below it are visited only for the first.
 fn flush_written(
     keeper: &mut Keeper,
     arena: &Arena,
@@ -96,7 +97,7 @@ fn is_set(change: ChangeRef<'_>) -> bool
     }
 }
 
-// Whether the list is one such change alone.
+// Whether the list is one such change and no other.
 #[tactic(auto, using(crate::proofs::AloneLemmas::more_or_none, crate::proofs::AloneLemmas::only_one))]
 fn is_set_alone<L: ChangeList>(changes: &L) -> bool
     ensures { result ≡ is_set_alone (L.changes changes.now) }
@@ -114,8 +115,8 @@ fn flushes_all<L: ChangeList>(tables: &Tables, changes: &L) -> bool
     tables.counts_arguments() && is_set_alone(changes)
 }
 
-// Flushes the caches that a list of changes reaches, which were just made and wrote this. Of a
-// document's classes all caches are flushed where one method alone was set, or two exchanged.
+// Flushes the caches that a list of changes affects, which were just made and wrote these entries.
+// For a document's classes all caches are flushed if the list only set one method or exchanged two.
 pub(crate) fn flush_changed<L: ChangeList>(
     keeper: &mut Keeper,
     arena: &Arena,

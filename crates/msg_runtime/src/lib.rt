@@ -1,4 +1,4 @@
-//! What a runtime lock guards: the keeper of the method caches, and the class tables at its
+//! The data behind a runtime lock: the keeper of the method caches, and the class tables at its
 //! history.
 #![tactic(auto)]
 

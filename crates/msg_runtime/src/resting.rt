@@ -1,8 +1,8 @@
-//! When old code may go: since how many changes each sender has rested.
+//! When old code may be unloaded: the number of changes since which each sender has rested.
 //!
-//! A sender rests where nothing that it was answered before is in use: no method of those runs in
-//! its thread, and none is kept to be called. To have seen a change isn't enough. A method from
-//! before it may have sent the message by whose answer the sender saw it, and runs on.
+//! A sender rests when nothing that it found before is in use: no such method runs in its thread,
+//! and none is kept to be called. It isn't enough that it has seen a change. A method from before
+//! the change may have sent the message by whose answer the sender saw the change, and still runs.
 
 ghost use Rattle.std.specs.Prelude.{◌≡◌, length};
 ghost use Rattle.msg_tables.specs.History.{BeginsWith};
@@ -17,8 +17,8 @@ use msg_cache::{Arena, Turn};
 use msg_reader::Reader;
 
 impl Runtime {
-    /// As [`meet`](Runtime::meet), and notes of the reader's number how many changes there are. The
-    /// caller says by it that nothing which the reader was answered before is in use.
+    /// Does the same as [`meet`](Runtime::meet), and notes the number of changes for the reader's
+    /// number. By the call the caller says that nothing which the reader found before is in use.
     pub fn rest(&mut self, arena: &Arena, turn: &mut Turn, reader: &mut Reader)
         requires arena { arena.now ≡ self.old.arena }
         requires turn { turn.old.table ≡ self.old.arena.table }
@@ -41,8 +41,9 @@ impl Runtime {
         self.rested[reader.number() as usize] = self.keeper.count();
     }
 
-    /// How many changes there were when each sender that is out had rested last, or was given out:
-    /// the least of these, and all where none is out. Each has seen as many.
+    /// For each sender that is out, take the number of changes when it last rested or was given
+    /// out. Returns the least of these numbers, or the number of all changes if no sender is out.
+    /// Each sender has seen that many changes.
     ///
     /// It goes over all sender numbers.
     pub fn seen_by_all(&self) -> u64

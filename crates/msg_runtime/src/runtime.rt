@@ -37,12 +37,12 @@ use std::mem::swap;
 use std::slice::from_ref;
 use std::snapshot::Snapshot;
 
-/// The keeper of an arena's method caches, and class tables that stand at its history.
+/// The keeper of an arena's method caches, and class tables at its history.
 ///
-/// It is what is used by one thread at a time, while senders probe the arena beside it. It has no
-/// lock of its own and waits for nobody: whoever has threads puts a lock round it. Once it is
-/// opened nothing but a change takes memory: for rows, and for what it notes of them. A row that
-/// is set or removed, an exchange and a class that is made take none.
+/// One thread at a time uses it, while senders probe the arena concurrently. It has no lock of its
+/// own and waits for nobody: a program with threads puts a lock around it. After it is opened only
+/// changes take memory, for rows and for what is noted of them. Setting or removing a row, an
+/// exchange and making a class take none.
 #[derive(Drop)]
 pub struct Runtime {
     pub(crate) keeper: Keeper,
@@ -50,8 +50,7 @@ pub struct Runtime {
     pub(crate) below: Below,
     written: Written,
     classes: u32,
-    // of each sender number, how many changes there were when its sender rested last, or was given
-    // out
+    // for each sender number the number of changes when its sender last rested or was given out
     pub(crate) rested: Vec<u64>,
     // all sender numbers below it are given out
     full: u32,
@@ -78,7 +77,7 @@ impl Model for Runtime {
 }
 
 impl Runtime {
-    /// The runtime of an arena that was just opened, whose tables it opens.
+    /// Makes the runtime of an arena that was just opened, and opens its tables.
     pub fn open<C: HasOrigin>(
         alloc: Global,
         arena: &Arena,
@@ -127,7 +126,7 @@ impl Runtime {
         })
     }
 
-    /// Answers a lookup that a reader missed, from the tables, and caches the answer. Its class
+    /// Answers a lookup that a reader missed from the tables, and caches the result. Its class
     /// reference is then open: what is noted of it counts until a change affects it. The reader has
     /// then seen the whole history.
     pub fn answer(
@@ -163,7 +162,7 @@ impl Runtime {
         imp
     }
 
-    /// The same, and notes the answer.
+    /// Does the same, and notes the result.
     pub fn answer_noted(
         &mut self,
         arena: &Arena,
@@ -201,8 +200,8 @@ impl Runtime {
         imp
     }
 
-    /// The implementation that a lookup finds, from the tables alone: no cache is looked at or
-    /// filled.
+    /// Returns the implementation that a lookup finds, from the tables alone. It reads and fills no
+    /// cache.
     pub fn lookup(&self, class: ClassRef, sel: Selector) -> ImpRef
         requires class { class.class < classes self.now.arena }
         ensures found { IsFoundAt self.now.keeper.history class sel result }
@@ -212,7 +211,7 @@ impl Runtime {
         self.tables.lookup(class, sel)
     }
 
-    /// The class reference at which that method stands.
+    /// Returns the class reference that has that method.
     pub fn holder(&self, class: ClassRef, sel: Selector) -> Option<ClassRef>
         requires class { class.class < classes self.now.arena }
         ensures { result ≡ holder self.now.keeper.history class (selector_number sel) }
@@ -231,11 +230,11 @@ impl Runtime {
     }
 
     /// Marks the class references whose lookups a list of changes may alter if it is made as one,
-    /// beside those that are marked, each at its slot, and doesn't make it; or says which of them
-    /// would be refused. Then what those before it may alter is marked; where memory is wanting,
-    /// the marks say nothing.
+    /// in addition to those that are marked, each at its slot. It doesn't make the list. If a
+    /// change would be refused, it returns which, and marks what the changes before it may alter.
+    /// If memory is lacking, the marks say nothing.
     ///
-    /// No cache is touched. It costs the walk over the classes that it marks, and what it costs the
+    /// It touches no cache. It costs the walk over the classes that it marks, and what it costs the
     /// tables to make the list and to take it back. The turn's history is the runtime's.
     pub fn reach_all<L: ChangeList>(
         &mut self,
@@ -269,8 +268,9 @@ impl Runtime {
             .reach_all(changes, &mut self.written, marked, below)
     }
 
-    /// Makes a change, closes what it reaches and flushes its caches, and answers how many times
-    /// changes were made. It is a list of one: see [`change_all`](Runtime::change_all).
+    /// Makes a change, closes the class references that it affects and flushes their caches.
+    /// Returns how many times changes were made. It is a list of one: see
+    /// [`change_all`](Runtime::change_all).
     #[tactic(auto, using(crate::proofs::OneLemmas::made_alone, crate::proofs::OneLemmas::refused_alone, crate::proofs::OneLemmas::wanting_alone, crate::proofs::OneLemmas::no_row_alone))]
     pub fn change(
         &mut self,
@@ -307,15 +307,15 @@ impl Runtime {
         }
     }
 
-    /// Makes a list of changes as one, closes what it reaches and flushes its caches, and answers
-    /// how many times changes were made, this time included; or says which of them would be
-    /// refused. After an error nothing was changed or flushed. An empty list changes nothing and
-    /// isn't counted.
+    /// Makes a list of changes as one, closes the class references that it affects and flushes
+    /// their caches. Returns how many times changes were made, including this one. If a change
+    /// would be refused, it returns which. After an error nothing was changed or flushed. An empty
+    /// list changes nothing and isn't counted.
     ///
-    /// What the list wrote is noted: [`written`](Runtime::written) tells the way back, directly
-    /// afterwards. That wants no memory: there is room for as many entries, and for the methods
-    /// that each class had. The turn's history is the runtime's, before and after. It costs what
-    /// its changes cost but for one count that is stored.
+    /// What the list wrote is noted. Directly afterwards [`written`](Runtime::written) gives the
+    /// way back. Making that needs no memory: there is room for as many entries, and for the
+    /// methods that each class had. The turn's history is the runtime's, before and after. The call
+    /// costs what its changes cost, but stores only one count.
     pub fn change_all<L: ChangeList>(
         &mut self,
         arena: &Arena,
@@ -352,8 +352,8 @@ impl Runtime {
         }
     }
 
-    /// The same, where the list's way back has at most so many changes: else nothing is made, and
-    /// how many it has is told.
+    /// Does the same if the list's way back has at most this number of changes. Otherwise it makes
+    /// nothing, and returns the number that it has.
     pub fn change_all_within<L: ChangeList>(
         &mut self,
         arena: &Arena,
@@ -386,17 +386,19 @@ impl Runtime {
         ensures unmade { IfErr result (IsUnmade (L.changes changes.now) self.old.keeper.history most) }
     {
         tables_are_of_their_origin();
-        self.keeper.face(arena, turn);
         let start = self.tables.start();
         if let Err(refused) = self.tables.apply_all(changes, &mut self.written) {
+            self.keeper.face(arena, turn);
             return Err(Unmade::Refused(refused));
         }
         let count = self.written.as_slice().len();
         if most < count {
+            self.keeper.face(arena, turn);
             self.tables.retract(start, &mut self.written);
             return Err(Unmade::TooLong(count));
         }
         if changes.len() == 0 {
+            self.keeper.face(arena, turn);
             return Ok(self.keeper.count());
         }
         flush_changed(
@@ -411,10 +413,10 @@ impl Runtime {
         Ok(self.keeper.commit_all(arena, turn, changes))
     }
 
-    /// A reader of a sender number that isn't given out, where there is one. It has seen the whole
-    /// history.
+    /// Returns a reader with a sender number that isn't given out, if there is one. It has seen the
+    /// whole history.
     ///
-    /// It looks at the numbers from the least on that may be free.
+    /// It looks at the numbers from the least one on that may be free.
     pub fn sender(&mut self, arena: &Arena) -> Option<Reader>
         requires arena { arena.now ≡ self.old.arena }
         ensures arena { self.new.arena ≡ self.old.arena }
@@ -459,7 +461,8 @@ impl Runtime {
         self.keeper.take_in(arena, reader.into_prober());
     }
 
-    /// The right to make changes: once, and then none. There was no change before.
+    /// Returns the right to make changes the first time, and nothing later. No change was made
+    /// before.
     pub fn turn(&mut self, arena: &Arena) -> Option<Turn>
         requires arena { arena.now ≡ self.old.arena }
         ensures arena { self.new.arena ≡ self.old.arena }
@@ -476,7 +479,8 @@ impl Runtime {
         self.keeper.turn(arena)
     }
 
-    /// A reader has then seen the turn's whole history, which begins with what it had seen.
+    /// Brings a reader up to date: it has then seen the turn's whole history, which begins with
+    /// what it had seen.
     pub fn meet(&mut self, arena: &Arena, turn: &mut Turn, reader: &mut Reader)
         requires arena { arena.now ≡ self.old.arena }
         requires turn { turn.old.table ≡ self.old.arena.table }
@@ -507,7 +511,8 @@ impl Runtime {
         &self.written
     }
 
-    /// Gives what was written last, with its room, for what is lent: the next list is noted there.
+    /// Exchanges what was written last, with its room, for another record. The next list is noted
+    /// there.
     pub fn swap_written(&mut self, written: &mut Written)
         ensures same { self.new ≡ record self.old { written = written.old } }
         ensures given { written.new ≡ self.old.written }
@@ -515,7 +520,7 @@ impl Runtime {
         swap(&mut self.written, written);
     }
 
-    /// How many times changes were made. Each was accepted.
+    /// The number of times that changes were made. Each change was accepted.
     #[inline]
     pub fn count(&self) -> u64
         ensures count { result ≡ length self.now.keeper.history.changes }
@@ -524,7 +529,7 @@ impl Runtime {
         self.keeper.count()
     }
 
-    /// What was done to caches so far.
+    /// The counts of what was done to caches so far.
     pub fn report(&self) -> Report
         ensures value { result ≡ self.now.report }
         ensures counts { AreCounts result }

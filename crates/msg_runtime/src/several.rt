@@ -17,7 +17,7 @@ use msg_reader::laws::notes_are_of_longer_histories;
 use msg_reader::{Lookup, LookupList, Notes, Reader};
 
 impl Runtime {
-    /// Answers several lookups by the numbers of the implementations, 0 for forwarding: all at the
+    /// Answers several lookups by the numbers of the implementations, 0 for forwarding, all at the
     /// whole history, which the reader has then seen. What its notes have since the stamp of the
     /// class reference is taken from there. The rest is looked up in the tables, cached and noted.
     /// The turn's history is the runtime's.
@@ -66,8 +66,9 @@ impl Runtime {
         self.meet(arena, turn, reader);
     }
 
-    // What a lookup finds at what the reader has then seen: what its notes have since the stamp of
-    // the class reference, or else what the tables have, which is then cached and noted.
+    // Returns what a lookup finds at what the reader has then seen. It takes what the notes have
+    // since the stamp of the class reference, or else what the tables have, which is then cached
+    // and noted.
     fn recall_or_answer(
         &mut self,
         arena: &Arena,

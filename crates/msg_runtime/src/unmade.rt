@@ -5,8 +5,8 @@ use msg_tables::Refused;
 /// Why a list of changes was not made.
 #[derive(Clone, Copy, Debug, PartialEq, Eq)]
 pub enum Unmade {
-    /// One of them was refused.
+    /// One of the changes was refused.
     Refused(Refused),
-    /// Its way back has so many changes, more than it may have.
+    /// Its way back has this number of changes, which is more than it may have.
     TooLong(usize),
 }

@@ -5,7 +5,7 @@
 pub const SMALL: &str =
     r#"{"version":1,"classes":[{"name":"Root","super":null,"methods":[["value","r_value"]],"class_methods":[]},{"name":"Child","super":"Root","methods":[],"class_methods":[]}],"categories":[],"objects":[{"name":"c","class":"Child"}],"imps":[{"name":"r_value","class":"Root","meta":false,"args":0,"body":7}],"items":[{"send":[["obj","c"],"value"]}]}"#;
 
-/// Five classes, of which `Child` and `Grand` stand below `Root`, and objects of them. It has each
+/// Five classes, of which `Child` and `Grand` are below `Root`, and objects of them. It has each
 /// form of a body. `value` and `name`, selectors 2 and 3, are implementations 1 and 2 of `Root`,
 /// and `name` is implementation 11 of `Child`.
 pub const IMAGE: &str = r#"{"version":1,"classes":[

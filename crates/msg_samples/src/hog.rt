@@ -3,15 +3,15 @@
 use std::alloc::{AllocError, Global};
 use std::env::{self, Env};
 
-// How many blocks are taken at most.
+// The most blocks that are taken.
 const MOST: usize = 1 << 20;
 
-// How many pieces can be given back one by one, and how many bytes each has.
+// The number of pieces that can be freed one by one, and the size of each in bytes.
 const PIECES: usize = 4096;
 
 const PIECE: usize = 200;
 
-/// What holds all the memory that the process can have.
+/// Holds all the memory that the process can have.
 #[derive(Drop)]
 pub struct Hog {
     blocks: Vec<Vec<u8>>,
@@ -21,7 +21,7 @@ pub struct Hog {
 impl Hog {
     /// Takes all memory that is free.
     ///
-    /// Where there is no environment nothing is taken: so tests are tried without a proof, over an
+    /// If there is no environment nothing is taken: so tests are tried without a proof, over an
     /// allocator that has more memory than there is.
     pub fn new<R: Env + AllocGlobal>(rt: &R) -> Result<Hog, AllocError> {
         let alloc = rt.alloc();

@@ -4,12 +4,12 @@ use msg_json::{Bump, JsonFault, Scratch, Tree, get, has_keys, read};
 use serde_json::{Error, Map, Value};
 use std::alloc::Global;
 
-/// What the two readers make of a text.
+/// The result of reading a text with both readers.
 #[derive(Clone, Copy, Debug, PartialEq, Eq, Drop)]
 pub enum Readings {
     /// One value.
     Same,
-    /// Neither reads it, and memory wasn't wanting.
+    /// Neither reads it, and memory wasn't lacking.
     Refused,
     /// Anything else.
     Different,

@@ -1,4 +1,5 @@
--- What takes a change back is accepted directly afterwards, but for the limit on changes.
+-- The changes that take a change back are accepted directly afterwards, except for the limit on
+-- changes.
 use Rattle.std.proofs.Common.{◌≡◌, ◌≢◌, ◌<◌, ◌≤◌, ◌+◌, ℕ, zero, suc, List, [], ◌∷◌, ◌++◌, length, length-append, Option, Some, None, Bool, true, false, cond, map, reverse, refl, sym, ap, ap₂, ◌∙◌, subst, append-nil, append_assoc, arith}
 use Rattle.std.specs.Prelude.{◌==◌, ◌&&◌, ◌||◌, not, nat_lt, nat_le, is_some, is_none, slice_set}
 use Rattle.std.specs.List.{list_all, list_any}
@@ -22,7 +23,8 @@ use Rattle.msg_tables.specs.Chain.{presence_of, is_present, is_directly_below, h
 use Rattle.msg_tables.specs.Log.{table_after_all}
 use Rattle.msg_tables.specs.Origin.{OriginView, class_total, lacks_imp, misfits_in, unlike_in}
 use Rattle.msg_tables.specs.Refusal.{least_change_fault}
-use Rattle.msg_tables.specs.Rows.{Row, ClassTable, is_at, own, or_else, holder_at, lookup_at}
+use Rattle.msg_rows.specs.RowList.{or_else}
+use Rattle.msg_tables.specs.Rows.{Row, ClassTable, is_at, own, holder_at, lookup_at}
 use Rattle.msg_tables.specs.Undo.{are_numbered, covering, covering_all, count_at, fits_in, is_numbered, old_at, removing, undo}
 use Rattle.msg_tables.proofs.AgainstLemmas.{May, MayAll, against, absent, absent_superclass, may_all-append}
 use Rattle.msg_tables.proofs.ImpsLemmas.{count-all, count-without}
@@ -72,7 +74,7 @@ module _ (o : OriginView) (t : ClassTable) where
       step true = let parts = fits-parts o.counts (s, i) fits in may-attach c.class [] ((s, i) ∷ []) here (or-none (lacks_imp o.counts i) parts.0) (or-none (misfits_in o.counts s i) parts.1) few
       step false = let parts = fits-parts o.counts (s, i) fits in may-attach c.class ((s, i) ∷ []) [] here (or-none (lacks_imp o.counts i) parts.0) (or-none (misfits_in o.counts s i) parts.1) few
 
--- each of some rows comes again
+-- each of some rows is added again
 pub may-cover_all : (o : OriginView) (supers : List (Option Presence)) (c : ClassRef) (rows rs : List Row) → is_present supers c.class ≡ true → list_all (is_sound_row o supers) rs ≡ true
     → length rows + length (rows_of c rs) ≤ o.limits.rows → MayAll o (record { supers = supers; rows = rows }) (covering_all c rs)
 may-cover_all o supers c rows [] here all few = tt
@@ -95,7 +97,7 @@ may-cover_all o supers c rows (r ∷ rs) here all few =
     )
     step false few fits skip rest = skip few
 
--- methods that were attached leave, one after another
+-- methods that were attached are removed, one after another
 pub may-remove_all : (o : OriginView) (supers : List (Option Presence)) (rows : List Row) (c : ClassRef) (ms : List (ℕ × ℕ)) → Kept o (record { supers = supers; rows = rows ++ rows_at c (reverse ms) }) → is_present supers c.class ≡ true
     → list_all is_numbered ms ≡ true → list_all (fits_in o.counts) ms ≡ true → MayAll o (record { supers = supers; rows = rows ++ rows_at c (reverse ms) }) (removing c ms)
 may-remove_all o supers rows c [] kept here numbered fits = tt
@@ -157,7 +159,7 @@ some-else : (a b : Option ℕ) → is_some b ≡ true → is_some (or_else a b) 
 some-else (Some i) b e = refl
 some-else None b e = e
 
--- a replacement leaves own rows where they are
+-- a replacement leaves own rows in place
 stays-own : (rows : List Row) (d c : ClassRef) (v : ℕ) (s : Selector) (i : ImpRef) → is_some (own rows d v) ≡ true
     → is_some (own (cond (is_some (own rows c (selector_number s))) (set_own c (selector_number s) (imp_number i) rows) (rows ++ row c s i ∷ [])) d v) ≡ true
 stays-own rows d c v s i e = step (is_some (own rows c (selector_number s)))
@@ -166,9 +168,9 @@ stays-own rows d c v s i e = step (is_some (own rows c (selector_number s)))
     step true = some-set_own c d (selector_number s) v (imp_number i) rows ∙ e
     step false = ap is_some (own-append rows (row c s i ∷ []) d v) ∙ some-else (own (row c s i ∷ []) d v) (own rows d v) e
 
--- ---- a method gets its implementation again, where it stands
+-- ---- a method gets its implementation again, at its place
 
--- it stands there, and could
+-- the method is there, and could be
 pub record StandsAgain (o : OriginView) (t : ClassTable) (p : ClassRef) (s : ℕ) (i : ℕ) : Type 0 where
   pub here : is_present t.supers p.class ≡ true
   pub fits : fits_in o.counts (s, i) ≡ true
@@ -209,7 +211,7 @@ module _ (o : OriginView) (t : ClassTable) (kept : Kept o t) where
       step None is = (may-remove o (table_after t (Replace c s i)) c s here (fits-number o.counts (selector_number s) (imp_number i) (none_holds (against false o t (Replace c s i)) 2 e)) (replaced-own t.rows c s i) next.few, tt)
       step (Some old) is = (may-replace o (table_after t (Replace c s i)) c s old here (own-sound o t.supers t.rows c (selector_number s) old kept.rows is).1 (replaced-own t.rows c s i) next.few, tt)
 
-  -- a method that was found gets its implementation again, where the same own rows stand
+  -- a method that was found gets its implementation again, if the same own rows are there
   stands-held : (u : ClassTable) → u.supers ≡ t.supers → ((p : ClassRef) (n : ℕ) → is_some (own u.rows p n) ≡ is_some (own t.rows p n)) → (c : ClassRef) (s : ℕ) (p : ClassRef) → holder_at t c s ≡ Some p → StandsAgain o u p s (lookup_at t c s)
   stands-held u supers same c s p held =
       let sound = held-sound o t kept c p s held in

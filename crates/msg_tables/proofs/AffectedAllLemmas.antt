@@ -1,4 +1,4 @@
--- What a list of changes affects is found by what it made and where it wrote, once all is made.
+-- After all changes of a list are made, what the list made and where it wrote give what it affects.
 use Rattle.std.proofs.Common.{◌≡◌, ◌<◌, ◌+◌, ◌⊎◌, ℕ, List, [], ◌∷◌, ◌++◌, length, take, Bool, true, false, refl, sym, ap, ap₂, ◌∙◌, subst, inl, inr}
 use Rattle.std.specs.Prelude.{◌||◌, ◌==◌, slice_index_or}
 use Rattle.std.specs.List.{list_any}
@@ -82,7 +82,7 @@ affected-all h xs c o all e = step (is_of_one (made_by_all xs) c) refl
     step true made = refl
     step false other = at-places h xs c o all other e
 
--- ---- one entry more
+-- ---- one more entry
 
 parted : (a b p q : Bool) → ((a || b) || (p || q)) ≡ true → ((a || p) ≡ true) ⊎ ((b || q) ≡ true)
 parted true b p q e = inl refl

@@ -1,4 +1,4 @@
--- What speaks against a change, seen from the tables.
+-- Why a change is refused, by the tables.
 use Rattle.std.proofs.Common.{◌≡◌, ◌<◌, ◌≤◌, ◌+◌, ℕ, List, [], ◌∷◌, ◌++◌, length, length-append, Option, Some, None, Bool, true, false, refl, sym, ap, ◌∙◌, subst, arith}
 use Rattle.std.specs.Prelude.{◌||◌, not, nat_lt, nat_le, is_some, is_none, if◌then◌else◌}
 use Rattle.std.specs.List.{list_any}
@@ -55,7 +55,7 @@ module _ (ended : Bool) (o : OriginView) where
       ∷ (full (length t.rows + 0), Limit) ∷ []
   against t (DisposeClass k) = (absent t.supers k, NoClass) ∷ (full (length t.rows + 0), Limit) ∷ (nat_lt k (length o.superclasses) || has_subclass t.supers k, ClassInUse) ∷ []
 
-  -- the same of tables that are alike
+  -- the same for tables that are alike
   against-alike : (t u : ClassTable) (x : Change) → AreAlike t u → against t x ≡ against u x
   against-alike t u (Add c s i) e =
       let supers = e.supers in let own' = own-alike t.rows u.rows (alike-rows t u e) c (selector_number s) in let rows = length-alike t.rows u.rows (alike-rows t u e) in
@@ -87,7 +87,7 @@ module _ (ended : Bool) (o : OriginView) where
       let supers = e.supers in let rows = length-alike t.rows u.rows (alike-rows t u e) in
       λ k. (absent (supers k) j, NoClass) ∷ (full (rows k + 0), Limit) ∷ (nat_lt j (length o.superclasses) || has_subclass (supers k) j, ClassInUse) ∷ []
 
--- whether as many changes were accepted as may be
+-- whether as many changes were accepted as the limit
 abbrev ended_at : Log → Bool
 ended_at h = nat_le h.origin.limits.changes (length h.changes)
 
@@ -103,7 +103,7 @@ conditions-against h (AddClass k (Some d)) = refl
 conditions-against h (Remove c s) = refl
 conditions-against h (DisposeClass k) = refl
 
--- ---- accepted, but for the limit on changes
+-- ---- accepted, except for the limit on changes
 
 abbrev pub May : OriginView → ClassTable → Change → Type 0
 May o t x = least_change_fault (against false o t x) ≡ None

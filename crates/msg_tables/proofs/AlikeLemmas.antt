@@ -1,4 +1,4 @@
--- Tables that no lookup and no change tells apart.
+-- Tables that no lookup and no change distinguishes.
 use Rattle.std.proofs.Common.{◌≡◌, ◌+◌, ℕ, List, [], ◌∷◌, ◌++◌, length, Option, Some, None, Bool, true, false, cond, refl, sym, ap, ap₂, ◌∙◌, reverse, arith}
 use Rattle.std.specs.Prelude.{◌==◌, ◌&&◌, not, is_some}
 use Rattle.msg_names.specs.declared.value.ClassRef.{ClassRef}
@@ -15,7 +15,7 @@ use Rattle.msg_tables.specs.Undo.{AreAlike, imps_of, count_at}
 use Rattle.msg_tables.proofs.ImpsLemmas.{last_of, set_end, drop_end, own-imps, imps-append, count-append, imps-set, count-set, imps-without, count-without, imps-without_class, count-without_class, count-all}
 use Rattle.msg_tables.proofs.OwnLemmas.{holder-same, lookup-same}
 
--- rows that no lookup tells apart
+-- rows that no lookup distinguishes
 pub record SameRows (xs ys : List Row) : Type 0 where
   pub imps : (c : ClassRef) (s : ℕ) → imps_of c s xs ≡ imps_of c s ys
   pub count : (test : ClassRef → Bool) → count_at test xs ≡ count_at test ys

@@ -1,4 +1,4 @@
--- Tables that stand at a longer log after a change was written.
+-- Tables that are at a longer log after a change was written.
 use Rattle.std.proofs.Common.{◌≡◌, ◌+◌, List, [], ◌∷◌, ◌++◌, length, length-append, Some, None, Bool, true, false, cond, refl, sym, ap, ◌∙◌, subst, arith}
 use Rattle.std.specs.Prelude.{◌||◌}
 use Rattle.std.specs.List.{list_any}
@@ -45,7 +45,7 @@ not_memory (f ∷ fs) others e = step f.0 f.1 others (not_memory fs) e
     step false DuplicateClass others rest e = rest others e
     step false ClassInUse others rest e = rest others e
 
--- no change is refused for want of memory
+-- no change is refused for lack of memory
 pub refused-not_memory : (h : Log) (x : Change) → refusal h x ≡ Some Memory → ⊥
 unfolding refusal is_memory
 refused-not_memory h (Add c s i) e = not_memory (conditions h (Add c s i)) refl e

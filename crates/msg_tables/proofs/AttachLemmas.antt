@@ -9,7 +9,7 @@ use Rattle.msg_names.proofs.TestLemmas.{neither, list_any-map}
 use Rattle.msg_names.specs.declared.value.Selector.{Selector}
 use Rattle.msg_names.specs.declared.value.ImpRef.{ImpRef}
 use Rattle.msg_names.specs.Number.{selector_number, imp_number}
-use Rattle.msg_tables.specs.Methods.{method_numbers}
+use Rattle.msg_rows.specs.Methods.{method_numbers}
 use Rattle.msg_tables.specs.declared.change.Change.TheVariants.{Attach}
 use Rattle.msg_tables.specs.declared.fault.ChangeFault.{ChangeFault}
 use Rattle.msg_tables.specs.declared.fault.ChangeFault.TheVariants.{NoClass, Limit}
@@ -45,7 +45,7 @@ module _ (t : TablesView) (h : Log) (stands : StandsAt t h) where
       one : (ms : List (Selector × ImpRef)) → list_any (λ (m : ℕ × ℕ). misfits h m.0 m.1) (method_numbers ms) ≡ list_any (λ m. misfits_in t.counts (selector_number m.0) (imp_number m.1)) ms
       one ms = list_any-map (λ (m : ℕ × ℕ). misfits h m.0 m.1) numbers ms ∙ list_any-same _ _ (λ m. sym (misfits-stand t h stands (selector_number m.0) (imp_number m.1))) ms
 
--- methods of which none lacks its implementation are listed
+-- methods none of which lacks its implementation are listed
 pub listed : (t : TablesView) (ms : List (Selector × ImpRef)) → list_any (λ m. lacks_imp t.counts (imp_number m.1)) ms ≡ false → are_listed (last_imp t.counts) (method_numbers ms) ≡ true
 listed t [] e = refl
 listed t (m ∷ ms) e = step (imp_number m.1) (list_any (λ x. lacks_imp t.counts (imp_number x.1)) ms) e (listed t ms)

@@ -1,4 +1,4 @@
--- Tables that are what they were.
+-- Tables that are again what they were.
 use Rattle.std.proofs.Common.{◌≡◌, ◌≤◌, ◌*◌, ℕ, List, length, Option, true, ap, sym, arith}
 use Rattle.std.specs.List.{list_all}
 use Rattle.std.specs.Prelude.{sum_by}
@@ -8,11 +8,11 @@ use Rattle.msg_tables.specs.declared.presence.Presence.{Presence}
 use Rattle.msg_tables.specs.Journal.{IsSoundView}
 use Rattle.msg_tables.specs.Order.{IsOrder}
 use Rattle.msg_tables.specs.Origin.{CountsView, last_imp, are_listed}
-use Rattle.msg_tables.specs.RowList.{RowList, rooms_of, rows_of}
+use Rattle.msg_rows.specs.RowList.{RowList, rooms_of, rows_of}
 use Rattle.msg_tables.specs.View.{TablesView}
 use Rattle.msg_tables.proofs.PutLemmas.{length-rows_of}
 
--- what tables keep, of their fields
+-- what tables keep of their fields
 pub record AreKept (supers : List (Option Presence)) (order : List ℕ) (lists : List RowList) (counts : Option CountsView) (limits : Limits) (rows changes : ℕ) : Type 0 where
   pub counted : rows ≡ sum_by length (rows_of lists)
   pub ordered : IsOrder supers order

@@ -20,7 +20,7 @@ begins_next h x = record { same = refl; rest = (x ∷ [], refl) }
 pub begins_length : (h g : History) → BeginsWith h g → length g.changes ≤ length h.changes
 begins_length h g p = omega (arith, ap length p.rest.1, length-append g.changes p.rest.0)
 
--- one that begins with another and is no longer is that
+-- a history that begins with another and is no longer is that one
 pub begins_same : (p h : History) → BeginsWith p h → length p.changes ≡ length h.changes → p ≡ h
 begins_same p h b e = at p.origin p.changes b.rest.0 b.same b.rest.1 e
   where

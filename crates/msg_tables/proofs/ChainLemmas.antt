@@ -4,7 +4,7 @@ use Rattle.msg_names.specs.declared.value.ClassRef.{ClassRef}
 use Rattle.msg_tables.specs.declared.presence.Presence.{Presence}
 use Rattle.msg_tables.specs.Chain.{chain_up, super_of, steps_of}
 
--- the chain from there, if there is more of it
+-- the chain from there, if it goes on
 abbrev pub chain_from : ℕ → List (Option Presence) → Option ClassRef → List ClassRef
 chain_from n supers None = []
 chain_from n supers (Some c) = chain_up n supers c

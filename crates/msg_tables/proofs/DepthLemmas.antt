@@ -1,4 +1,4 @@
--- How many superclasses stand above a listed class, at a log.
+-- The number of superclasses above a listed class, at a log.
 use Rattle.std.proofs.Common.{◌≡◌, ◌<◌, ◌≤◌, ℕ, zero, suc, [], ◌∷◌, length, Option, Some, None, option_map, cond, refl, sym, ap, ◌∙◌, arith}
 use Rattle.std.specs.Prelude.{is_some}
 use Rattle.std.specs.Option.{option_map_or}
@@ -26,7 +26,7 @@ opened-presence_of o k inside =
     (opened-class o k (order.super_of o.superclasses k) (at ∙ ap Some (sym is)))
 
 module _ (h : Log) (sound : IsSound h.origin) (log : IsLog h) where
-  -- a listed class stays as it was opened
+  -- a listed class stays as it was at the opening
   listed-presence : (k : ℕ) → k < length h.origin.superclasses → presence_of (table h).supers k ≡ Some (record { superclass = order.super_of h.origin.superclasses k })
   unfolding table opening_table IsLog
   listed-presence k inside = presence-on (empty h.origin) h.changes k log inside (opened-is_present h.origin k inside) ∙ opened-presence_of h.origin k inside

@@ -13,7 +13,7 @@ use Rattle.msg_tables.specs.declared.presence.Presence.{Presence}
 use Rattle.msg_tables.specs.Order.{IsOrder}
 use Rattle.msg_tables.proofs.OrderLemmas.{place-fewer, super-fewer, super-present, steps_suffice}
 
--- two numbers of steps that suffice give one chain
+-- two numbers of steps that are enough give the same chain
 enough : (order : List ℕ) (n m : ℕ) (supers : List (Option Presence)) (c : ClassRef) → IsOrder supers order → steps_of order c ≤ n → steps_of order c ≤ m → chain_up n supers c ≡ chain_up m supers c
 enough order zero zero supers c before h g = refl
 enough order zero (suc m) supers c before h g = at (super_of supers c) (super-fewer supers order before c)
@@ -53,7 +53,7 @@ chain_of-step supers order c before inside =
         let less = fewer d refl in
         rw s (ap (λ cs. c ∷ cs) (enough order n (suc n) supers d before (omega (arith, less, h)) (omega (arith, less, h))))
 
--- a class reference descends from the origin where it is the origin, or its superclass descends
+-- a class reference descends from the origin if it is the origin, or its superclass descends
 pub descends-step : (supers : List (Option Presence)) (order : List ℕ) (origin c : ClassRef) → IsOrder supers order → is_present supers c.class ≡ true → descends supers origin c ≡ (same_class origin c || option_map_or (descends supers origin) (super_of supers c) false)
 unfolding descends
 descends-step supers order origin c before inside = ap (is_member origin) (chain_of-step supers order c before inside) ∙ at (super_of supers c)
@@ -137,13 +137,13 @@ below-meta false true true d root = absurd (clash (root refl))
 below-meta false false true d root = refl
 below-meta false false false d root = refl
 
--- A class reference descends from another where their classes do: from a class's metaclass just
--- metaclasses do, and from a class classes, and where that is a root class metaclasses too.
+-- A class reference descends from another if their classes do. Only metaclasses descend from a
+-- metaclass. Classes descend from a class, and metaclasses too if it is a root class.
 module _ (supers : List (Option Presence)) (order : List ℕ) (before : IsOrder supers order) (origin : ClassRef) where
   abbrev pub Kinds : ClassRef → Type 0
   Kinds c = descends supers origin c ≡ (cond c.meta (origin.meta || is_root supers origin.class) (not origin.meta) && descends supers (of_class origin.class) (of_class c.class))
 
-  -- a class and its superclass, where it has one
+  -- a class and its superclass, if it has one
   module _ (k : ℕ) (p : Presence) (here : presence_of supers k ≡ Some p) where
     there : is_present supers k ≡ true
     there = ap is_some here

@@ -1,4 +1,4 @@
--- Rows that are taken from a class reference one after another, and a class that is disposed of.
+-- Rows that are removed from a class reference one after another, and a class that is disposed of.
 use Rattle.std.proofs.Common.{◌≡◌, ◌<◌, ◌+◌, ◌-◌, ℕ, zero, suc, List, [], ◌∷◌, ◌++◌, append-nil, append_assoc, length, length-append, map, slice_get, Option, Some, None, option_map, Bool, true, false, cond, refl, sym, ap, ap₂, ◌∙◌, subst, arith}
 use Rattle.std.specs.Prelude.{◌==◌, ◌&&◌, ◌||◌, is_none, slice_index_or, slice_set}
 use Rattle.std.specs.Option.{option_map_or}
@@ -14,8 +14,7 @@ use Rattle.msg_tables.specs.After.{of_class, of_meta, without_class}
 use Rattle.msg_tables.specs.Chain.{is_member, presence_of}
 use Rattle.msg_tables.specs.Edits.{Writes}
 use Rattle.msg_tables.specs.Journal.{AllNameListed, IsJournalOf, IsRemoved, Journals, TakesRows, TellsDisposed, TellsRemoved, classes_of, cover_all, edit_undo, places_of, undo_entry, undo_journal}
-use Rattle.msg_tables.specs.RowList.{last_row, own_in, without_row}
-use Rattle.msg_tables.specs.Rows.{or_else}
+use Rattle.msg_rows.specs.RowList.{or_else, last_row, own_in, without_row}
 use Rattle.msg_tables.specs.Several.{is_of_one}
 use Rattle.msg_tables.specs.Stands.{Holds}
 use Rattle.msg_tables.specs.Undo.{covering}
@@ -59,7 +58,7 @@ without-last s i (m ∷ ms) = rw (own-last s i ms) (step (m.0 == s) (without-las
     step true e = ap (λ ys. m ∷ ys) e
     step false e = ap (λ ys. m ∷ ys) e
 
--- what the last row of all is to its selector
+-- the last row of all is the last of its selector
 pub record EndsWith (s : ℕ) (ms : List (ℕ × ℕ)) : Type 0 where
   pub front : List (ℕ × ℕ)
   pub imp : ℕ
@@ -226,7 +225,7 @@ module _ (k : ℕ) (journal one two : List Entry) (old a b new : TablesView) (e 
         listed-append n (x.entries ++ y.entries) (e ∷ []) (listed-append n x.entries y.entries x.listed ys) (subst (λ z. AllNameListed n (z ∷ [])) (sym tells.is) (listed, tt));
   }
 
--- where no row is last there is none
+-- if no row is last, there is none
 pub last-none : (ms : List (ℕ × ℕ)) → option_map (λ (m : ℕ × ℕ). m.0) (last_row ms) ≡ None → ms ≡ []
 last-none [] e = refl
 last-none (x ∷ []) e = cc

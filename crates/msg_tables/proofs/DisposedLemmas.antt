@@ -11,19 +11,19 @@ use Rattle.msg_tables.proofs.ClassLemmas.{gone-other, gone-same, no_subclass}
 use Rattle.msg_tables.proofs.OrderLemmas.{present-inside}
 use Rattle.msg_tables.proofs.OnceLemmas.{in-take, once}
 
--- a list without the element of a place
+-- a list without the element at a place
 abbrev pub without_at : ℕ → List ℕ → List ℕ
 without_at at [] = []
 without_at zero (x ∷ xs) = xs
 without_at (suc at) (x ∷ xs) = x ∷ without_at at xs
 
--- where the element of a place stood
+-- where the element at a place was
 skip : ℕ → ℕ → ℕ
 skip zero p = suc p
 skip (suc at) zero = zero
 skip (suc at) (suc p) = suc (skip at p)
 
--- where it stands then
+-- where the element is then
 unskip : ℕ → ℕ → ℕ
 unskip zero zero = zero
 unskip zero (suc q) = q
@@ -79,7 +79,7 @@ present_count-gone (Some p ∷ xs) zero there = omega arith
 present_count-gone (None ∷ xs) (suc k) there = let rest = present_count-gone xs k there in omega (arith, rest)
 present_count-gone (Some p ∷ xs) (suc k) there = let rest = present_count-gone xs k there in omega (arith, rest)
 
--- one that stands at a place is in the list, and one in the list stands somewhere
+-- an element at a place is in the list, and an element of the list is at some place
 in-at : (xs : List ℕ) (place k : ℕ) → slice_get xs place ≡ Some k → is_in k xs ≡ true
 in-at [] place k e = cc
 in-at (x ∷ xs) zero k e = ap (λ b. b || is_in k xs) (ap (λ y. x == y) (sym (same_Some x k e)) ∙ equal x)
@@ -107,7 +107,7 @@ module _ (supers : List (Option Presence)) (order : List ℕ) (is : IsOrder supe
   order' : List ℕ
   order' = without_at stands.at order
 
-  -- it stands nowhere else
+  -- it is at no other place
   alone : (place : ℕ) → slice_get order place ≡ Some k → place ≡ stands.at
   alone place e = at (either place stands.at)
     where

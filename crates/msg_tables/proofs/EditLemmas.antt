@@ -1,4 +1,4 @@
--- Rows that leave, and how many rows there are.
+-- Rows that are removed, and the number of rows.
 use Rattle.std.proofs.Common.{◌≡◌, ◌≢◌, ◌<◌, ◌+◌, ℕ, zero, suc, List, [], ◌∷◌, ◌++◌, length, length-append, Option, Some, None, Bool, true, false, cond, refl, sym, ap, ap₂, ◌∙◌, subst, arith}
 use Rattle.msg_tables.specs.Origin.{are_listed}
 use Rattle.msg_tables.proofs.ListedLemmas.{and_both}
@@ -12,8 +12,8 @@ use Rattle.msg_names.proofs.ClassRefLemmas.{same_class-is, same_class-refl}
 use Rattle.msg_names.proofs.TestLemmas.{both, equal, same_number}
 use Rattle.msg_tables.specs.After.{of_class, of_meta, rows_at, without_class, without_own}
 use Rattle.msg_tables.specs.Edits.{IsOfTables, added, edited, removed, rewritten}
-use Rattle.msg_tables.specs.RowList.{own_in, set_last, without_row}
-use Rattle.msg_tables.specs.Rows.{Row, is_at, or_else, own}
+use Rattle.msg_rows.specs.RowList.{or_else, own_in, set_last, without_row}
+use Rattle.msg_tables.specs.Rows.{Row, is_at, own}
 use Rattle.msg_tables.specs.Stands.{Holds, pairs_at}
 use Rattle.msg_tables.specs.View.{TablesView, kept}
 use Rattle.msg_tables.specs.declared.edit.Edit.{Edit}
@@ -21,7 +21,7 @@ use Rattle.msg_tables.specs.declared.edit.Edit.TheVariants as edit
 use Rattle.msg_tables.proofs.HoldsLemmas.{class-apart, holds-put, kept-other, length-rows_at, length-set_own, meta-apart}
 use Rattle.msg_tables.proofs.LookupLemmas.{own-pairs_at}
 
--- ---- the own row leaves
+-- ---- the own row is removed
 
 pub pairs_at-without_own : (c : ClassRef) (s : ℕ) (rows : List Row) → pairs_at c (without_own c s rows) ≡ without_row s (pairs_at c rows)
 pairs_at-without_own c s [] = refl
@@ -64,7 +64,7 @@ length-without_own c s (r ∷ rs) there = step (own rs c s) refl (is_at c s r) t
     step None e true there rest = refl
     step None e false there rest = cc
 
--- ---- the rows of a class and of its metaclass leave
+-- ---- the rows of a class and of its metaclass are removed
 
 of-class : (c d : ClassRef) (k : ℕ) → same_class c d ≡ true → (c.class == k) ≡ (d.class == k)
 of-class c d k e = ap (λ (z : ClassRef). z.class == k) (same_class-is c d e)
@@ -139,7 +139,7 @@ length-without_class k (r ∷ rs) = step (r.class.class == k) r.class.meta (leng
     step true false rest = omega (arith, rest)
     step false m rest = omega (arith, rest)
 
--- ---- how many rows an edit leaves
+-- ---- the number of rows after an edit
 
 module _ (t : TablesView) (rows : List Row) (holds : Holds t.lists rows) where
   own-there : (c : ClassRef) (s : ℕ) → IsSome (own_in s (kept t.lists c)) → is_some (own rows c s) ≡ true
@@ -162,7 +162,7 @@ module _ (t : TablesView) (rows : List Row) (holds : Holds t.lists rows) where
       let meta = ap length (holds.at (of_meta k)) in
       omega (arith, n, own, meta)
 
--- ---- how many rows lists have
+-- ---- the number of rows in lists
 
 pub sum-put : (lists : List (List (ℕ × ℕ))) (k : ℕ) (ms : List (ℕ × ℕ)) → k < length lists → sum_by length (slice_set lists k ms) + length (slice_index_or lists k []) ≡ sum_by length lists + length ms
 sum-put [] k ms inside = absurd (omega (arith, inside))

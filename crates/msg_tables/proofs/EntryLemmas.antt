@@ -1,4 +1,4 @@
--- What an entry of a journal tells.
+-- What an entry of a journal describes.
 use Rattle.std.proofs.Common.{◌≡◌, ℕ, Bool, true, false, List, [], ◌∷◌, Option, Some, None, refl, sym, ap, ap₂, subst, ◌∙◌}
 use Rattle.std.specs.Prelude.{◌||◌, ◌==◌}
 use Rattle.std.specs.Option.{option_map_or}
@@ -15,14 +15,14 @@ pub or-none : (a : Bool) → (a || false) ≡ a
 or-none true = refl
 or-none false = refl
 
--- an entry of a class, and of no place, tells of that class alone
+-- an entry of a class, and of no place, describes only that class
 pub told-class : (h : Log) (e : Entry) (k : ℕ) (c : ClassRef) → classes_of (e ∷ []) ≡ k ∷ [] → places_of (e ∷ []) ≡ [] → is_told h (e ∷ []) c ≡ (c.class == k)
 told-class h e k c classes places = ap₂ (λ ks ps. is_of_one ks c || is_below h ps c) classes places ∙ or-none ((c.class == k) || false) ∙ or-none (c.class == k)
 
 same-some : (c p : ClassRef) → Some c ≡ Some p → c ≡ p
 same-some c p e = ap (λ (o : Option ClassRef). option_map_or (λ q. q) o c) e
 
--- an entry of a place tells of that place and those below
+-- an entry of a place describes that place and those below
 pub told-place : (h : Log) (e : Entry) (p c : ClassRef) → place_of e ≡ Some p → is_told h (e ∷ []) c ≡ is_member p (chain_at h c)
 told-place h (entries.Added q s) p c is = or-none (is_member q (chain_at h c)) ∙ ap (λ z. is_member z (chain_at h c)) (same-some q p is)
 told-place h (entries.Rewrote q s i) p c is = or-none (is_member q (chain_at h c)) ∙ ap (λ z. is_member z (chain_at h c)) (same-some q p is)

@@ -4,21 +4,22 @@ use Rattle.std.specs.Prelude.{◌==◌, ◌&&◌, is_none, is_some}
 use Rattle.msg_tables.proofs.EditLemmas.{pairs_at-gone, pairs_at-stays, pairs_at-without_other, pairs_at-without_own}
 use Rattle.msg_tables.proofs.LookupLemmas.{own-pairs_at}
 use Rattle.msg_tables.specs.Stands.{pairs_at}
-use Rattle.msg_tables.proofs.OrElseLemmas.{or_else_none, or_else-assoc}
+use Rattle.msg_rows.proofs.OrElseLemmas.{or_else_none, or_else-assoc}
+use Rattle.msg_rows.proofs.RowLemmas.{own_in-append}
 use Rattle.msg_names.proofs.TestLemmas.{both, same_number}
 use Rattle.msg_names.specs.declared.value.ClassRef.{ClassRef}
-use Rattle.std.proofs.lemmas.List.{map-append, reverse-append, take_more}
+use Rattle.std.proofs.lemmas.List.{reverse-append}
 use Rattle.msg_names.specs.declared.value.Selector.{Selector}
 use Rattle.msg_names.specs.declared.value.ImpRef.{ImpRef}
-use Rattle.msg_tables.specs.Methods.{method_numbers}
+use Rattle.msg_rows.specs.Methods.{method_numbers}
 use Rattle.msg_names.specs.Number.{selector_number, imp_number}
 use Rattle.msg_tables.specs.declared.change.Change.{Change}
 use Rattle.msg_tables.specs.declared.change.Change.TheVariants.{Add, Replace, SetImp, Exchange, Attach, AddClass, Remove, DisposeClass}
 use Rattle.msg_names.specs.ClassRef.{same_class}
 use Rattle.msg_tables.specs.Chain.{chain_of, chain_up, super_of, is_present}
 use Rattle.msg_tables.specs.declared.presence.Presence.{Presence}
-use Rattle.msg_tables.specs.Rows.{Row, own, or_else, chain, holder_in, lookup_in, holder_at, lookup_at}
-use Rattle.msg_tables.specs.RowList.{own_in, without_row}
+use Rattle.msg_tables.specs.Rows.{Row, own, chain, holder_in, lookup_in, holder_at, lookup_at}
+use Rattle.msg_rows.specs.RowList.{or_else, own_in, without_row}
 use Rattle.msg_tables.specs.After.{of_class, of_meta, row, rows_at, set_own, set_method, without_class, without_own, rows_after, supers_after}
 use Rattle.msg_tables.specs.Log.{Log, and_then, table, lookup, holder}
 use Rattle.msg_tables.proofs.LawLemmas.{lookup-after, some-set_method}
@@ -26,12 +27,7 @@ use Rattle.msg_tables.proofs.OwnLemmas.{own-append, own-rows_at, own-rows_other,
 use Rattle.msg_names.proofs.ClassRefLemmas.{same_class-is}
 use Rattle.msg_tables.specs.Written.{written, at_ref, row_leaves}
 
-pub own_in-append : (s : ℕ) (xs ys : List (ℕ × ℕ)) → own_in s (xs ++ ys) ≡ or_else (own_in s ys) (own_in s xs)
-own_in-append s [] ys = sym (or_else_none (own_in s ys))
-own_in-append s (m ∷ xs) ys =
-    ap (λ o. or_else o (cond (m.0 == s) (Some m.1) None)) (own_in-append s xs ys) ∙ or_else-assoc (own_in s ys) (own_in s xs) (cond (m.0 == s) (Some m.1) None)
-
--- the first entry of a list counts, where the last row does
+-- the first entry of a list counts if the last row does
 own_in-first : (s : ℕ) (m : ℕ × ℕ) (ms : List (ℕ × ℕ)) → own_in s (reverse (m ∷ ms)) ≡ or_else (cond (m.0 == s) (Some m.1) None) (own_in s (reverse ms))
 own_in-first s m ms = ap (own_in s) (reverse-append (m ∷ []) ms) ∙ own_in-append s (reverse ms) (m ∷ [])
 
@@ -97,7 +93,7 @@ own_stays c s d u rows e = own-pairs_at d u (without_own c (selector_number s) r
         subst (λ z. own_in u (pairs_at z (without_own c (selector_number s) rows)) ≡ own_in u (pairs_at z rows)) (same_class-is c d f)
         (ap (own_in u) (pairs_at-without_own c (selector_number s) rows) ∙ own_in-without_other (selector_number s) u (pairs_at c rows) g)
 
--- the own row leaves
+-- the own row is removed
 pub own_removed : (c : ClassRef) (s : Selector) (d : ClassRef) (u : Selector) (rows : List Row) → (same_class c d && (selector_number s == selector_number u)) ≡ true
     → own_in (selector_number u) (without_row (selector_number u) (pairs_at d rows)) ≡ own (without_own c (selector_number s) rows) d (selector_number u)
 own_removed c s d u rows e =
@@ -106,7 +102,7 @@ own_removed c s d u rows e =
     subst (λ z. own_in (selector_number u) (without_row (selector_number u) (pairs_at z rows)) ≡ own (without_own c (selector_number s) rows) z (selector_number u)) (same_class-is c d class)
     (sym (own-pairs_at c (selector_number u) (without_own c (selector_number s) rows) ∙ ap (λ k. own_in (selector_number u) (pairs_at c (without_own c k rows))) n ∙ ap (own_in (selector_number u)) (pairs_at-without_own c (selector_number u) rows)))
 
--- of a class that is disposed of all do
+-- all own rows of a class that is disposed of are removed
 pub own_disposed : (k : ℕ) (d : ClassRef) (u : ℕ) (rows : List Row) → (d.class == k) ≡ true → None ≡ own (without_class k rows) d u
 own_disposed k d u rows e = sym (own-pairs_at d u (without_class k rows) ∙ ap (own_in u) (pairs_at-gone d k rows e))
 
@@ -141,11 +137,11 @@ own_written h (AddClass k e) d u stays = refl
 own_written h (Remove c s) d u stays = own_stays c s d u (table h).rows stays
 own_written h (DisposeClass k) d u stays = own-pairs_at d u (without_class k (table h).rows) ∙ ap (own_in u) (pairs_at-stays d k (table h).rows stays) ∙ sym (own-pairs_at d u (table h).rows)
 
--- where something is written it is the own row, and elsewhere the own row stays
+-- what is written is the own row, and elsewhere the own row stays
 pub own_seen : (h : Log) (x : Change) (d : ClassRef) (u i : ℕ) (o : Option ImpRef) → row_leaves x d u ≡ false → option_map imp_number o ≡ written h x d u → option_map imp_number o ≡ Some i → own (rows_after (table h) x) d u ≡ Some i
 own_seen h x d u i o stays is e = own_written h x d u stays ∙ ap (λ w. or_else w (own (table h).rows d u)) (sym is ∙ e)
 
--- where nothing is written the own row stays
+-- if nothing is written, the own row stays
 pub own_kept : (h : Log) (x : Change) (d : ClassRef) (u : ℕ) (o : Option ImpRef) (a : Option ℕ) → row_leaves x d u ≡ false → option_map imp_number o ≡ written h x d u → o ≡ None
     → a ≡ own (table h).rows d u → a ≡ own (rows_after (table h) x) d u
 own_kept h x d u o a stays is none at = at ∙ sym (own_written h x d u stays ∙ ap (λ w. or_else w (own (table h).rows d u)) (sym is ∙ ap (option_map imp_number) none))
@@ -156,17 +152,17 @@ supers_then h x = supers_after (table h).supers x
 
 -- ---- a lookup on its way
 
--- of the chain from a class reference at most n
+-- at most n of the chain from a class reference
 abbrev pub chain_rest : ℕ → List (Option Presence) → ClassRef → List ClassRef
 chain_rest zero supers c = []
 chain_rest (suc n) supers c = chain_up n supers c
 
--- the lookup from c has come to a class reference, with at most m to go
+-- the lookup from c has reached a class reference, with at most m steps to go
 pub record Comes (h : Log) (x : Change) (c : ClassRef) (s m : ℕ) (here : ClassRef) : Type 0 where
   pub rest : lookup (and_then h x) c s ≡ lookup_in (rows_after (table h) x) (chain_rest m (supers_then h x) here) s
 
 module _ (h : Log) (x : Change) (c : ClassRef) (s : ℕ) where
-  -- where the class will be present
+  -- if the class will be present
   pub comes_first : (m : ℕ) → m ≡ suc (length (supers_then h x)) → is_present (supers_then h x) c.class ≡ true → Comes h x c s m c
   unfolding chain_of
   comes_first m e here = record {
@@ -174,7 +170,7 @@ module _ (h : Log) (x : Change) (c : ClassRef) (s : ℕ) where
         ∙ ap (λ k. lookup_in (rows_after (table h) x) (chain_rest k (supers_then h x) c) s) (sym e);
   }
 
-  -- and where it won't
+  -- and if it won't
   pub comes_nowhere : is_present (supers_then h x) c.class ≡ false → lookup (and_then h x) c s ≡ 0
   unfolding chain_of
   comes_nowhere none = lookup-after h x c s ∙ ap (λ b. lookup_in (rows_after (table h) x) (cond b (chain_up (length (supers_then h x)) (supers_then h x) c) []) s) none
@@ -217,60 +213,7 @@ module _ (h : Log) (x : Change) (c : ClassRef) (s : ℕ) where
   way_over n k here (suc zero, e, on) ge none = on.rest ∙ rw none refl
   way_over n k here (suc (suc m), e, on) ge none = absurd (omega arith)
 
--- ---- the last row but one
-
-pub own_in-snoc : (s : ℕ) (ms : List (ℕ × ℕ)) (m : ℕ × ℕ) → own_in s (ms ++ m ∷ []) ≡ cond (m.0 == s) (Some m.1) (own_in s ms)
-own_in-snoc s ms m = own_in-append s ms (m ∷ []) ∙ step (m.0 == s)
-  where
-    step : (b : Bool) → or_else (or_else None (cond b (Some m.1) None)) (own_in s ms) ≡ cond b (Some m.1) (own_in s ms)
-    step true = refl
-    step false = refl
-
-pub without_row-snoc : (s : ℕ) (ms : List (ℕ × ℕ)) (m : ℕ × ℕ) (b : Bool) → (m.0 == s) ≡ b → own_in s (without_row s (ms ++ m ∷ [])) ≡ cond b (own_in s ms) (own_in s (without_row s ms))
-without_row-snoc s [] m true e = rw e refl
-without_row-snoc s [] m false e = rw e (rw e refl)
-without_row-snoc s (x ∷ xs) m true e =
-    let last : own_in s (xs ++ m ∷ []) ≡ Some m.1 = own_in-snoc s xs m ∙ rw e refl in
-    rw last (step (x.0 == s) (without_row-snoc s xs m true e))
-  where
-    step : (b : Bool) → own_in s (without_row s (xs ++ m ∷ [])) ≡ own_in s xs → own_in s (cond (b && false) (xs ++ m ∷ []) (x ∷ without_row s (xs ++ m ∷ []))) ≡ or_else (own_in s xs) (cond (x.0 == s) (Some x.1) None)
-    step true rest = ap (λ o. or_else o (cond (x.0 == s) (Some x.1) None)) rest
-    step false rest = ap (λ o. or_else o (cond (x.0 == s) (Some x.1) None)) rest
-without_row-snoc s (x ∷ xs) m false e =
-    let last : own_in s (xs ++ m ∷ []) ≡ own_in s xs = own_in-snoc s xs m ∙ rw e refl in
-    rw last (step ((x.0 == s) && is_none (own_in s xs)) last (without_row-snoc s xs m false e))
-  where
-    step : (b : Bool) → own_in s (xs ++ m ∷ []) ≡ own_in s xs → own_in s (without_row s (xs ++ m ∷ [])) ≡ own_in s (without_row s xs) → own_in s (cond b (xs ++ m ∷ []) (x ∷ without_row s (xs ++ m ∷ []))) ≡ own_in s (cond b xs (x ∷ without_row s xs))
-    step true last rest = last
-    step false last rest = ap (λ o. or_else o (cond (x.0 == s) (Some x.1) None)) rest
-
--- the last row of a selector so far, and the one before it
-pub record AreLast (s : ℕ) (rows : List (Selector × ImpRef)) (i : ℕ) (last covered : Option ImpRef) : Type 0 where
-  pub newest : option_map imp_number last ≡ own_in s (method_numbers (take i rows))
-  pub older : option_map imp_number covered ≡ own_in s (without_row s (method_numbers (take i rows)))
-
-module _ (s : ℕ) (rows : List (Selector × ImpRef)) (i : ℕ) (m : Selector × ImpRef) (inside : i < length rows) (read : m ≡ get_or rows i m) (last covered : Option ImpRef) (so-far : AreLast s rows i last covered) where
-  pair : ℕ × ℕ
-  pair = (selector_number m.0, imp_number m.1)
-
-  more : method_numbers (take (i + 1) rows) ≡ method_numbers (take i rows) ++ (selector_number m.0, imp_number m.1) ∷ []
-  more =
-      ap method_numbers (take_more rows i m inside ∙ ap (λ x. take i rows ++ x ∷ []) (sym read))
-      ∙ map-append (λ (n : Selector × ImpRef). (selector_number n.0, imp_number n.1)) (take i rows) (m ∷ [])
-
-  pub last-found : (selector_number m.0 == s) ≡ true → AreLast s rows (i + 1) (Some m.1) last
-  last-found e = record {
-    newest = sym (ap (own_in s) more ∙ own_in-snoc s (method_numbers (take i rows)) (selector_number m.0, imp_number m.1) ∙ rw e refl);
-    older = so-far.newest ∙ sym (ap (λ ms. own_in s (without_row s ms)) more ∙ without_row-snoc s (method_numbers (take i rows)) (selector_number m.0, imp_number m.1) true e);
-  }
-
-  pub last-kept : (selector_number m.0 == s) ≡ false → AreLast s rows (i + 1) last covered
-  last-kept e = record {
-    newest = so-far.newest ∙ sym (ap (own_in s) more ∙ own_in-snoc s (method_numbers (take i rows)) (selector_number m.0, imp_number m.1) ∙ rw e refl);
-    older = so-far.older ∙ sym (ap (λ ms. own_in s (without_row s ms)) more ∙ without_row-snoc s (method_numbers (take i rows)) (selector_number m.0, imp_number m.1) false e);
-  }
-
--- a row that leaves otherwise than by a removal
+-- a row that is lost otherwise than by a removal
 pub own_gone : (h : Log) (x : Change) (d : ClassRef) (u : ℕ) → row_leaves x d u ≡ true → ((c : ClassRef) (s : Selector) → x ≡ Remove c s → ⊥) → None ≡ own (rows_after (table h) x) d u
 own_gone h (Add c s i) d u leaves other = cc
 own_gone h (Replace c s i) d u leaves other = cc

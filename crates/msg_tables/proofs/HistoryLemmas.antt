@@ -13,7 +13,7 @@ one_by_one-append : (xs ys : List (List Change)) → one_by_one (xs ++ ys) ≡ o
 one_by_one-append [] ys = refl
 one_by_one-append (x ∷ xs) ys = ap (λ zs. x ++ zs) (one_by_one-append xs ys) ∙ sym (append_assoc x (one_by_one xs) (one_by_one ys))
 
--- a log that is longer by a list of changes, at once
+-- a log with a list of changes added at once
 abbrev pub longer : Log → List Change → Log
 longer g xs = record { origin = g.origin; changes = g.changes ++ xs }
 
@@ -22,7 +22,7 @@ and_all-longer g [] = ap (λ (cs : List Change). (let l : Log = record { origin 
 and_all-longer g (x ∷ xs) =
     and_all-longer (logs.and_then g x) xs ∙ ap (λ (cs : List Change). (let l : Log = record { origin = g.origin; changes = cs } in l)) (append_assoc g.changes (x ∷ []) xs)
 
--- the log of a history that is longer by a list of changes
+-- the log of a history with a list of changes added
 pub log-all : (h : History) (xs : List Change) → log (and_then h xs) ≡ and_all (log h) xs
 log-all h xs =
     ap (λ (cs : List Change). (let l : Log = record { origin = h.origin; changes = cs } in l))
@@ -40,7 +40,7 @@ pub accepted-all_then : (g : Log) (xs : List Change) → IsLog g → AreAccepted
 accepted-all_then g [] is all = is
 accepted-all_then g (x ∷ xs) is all = accepted-all_then (logs.and_then g x) xs (log-and_then g x is all.0) all.1
 
--- a history that is longer by an accepted list
+-- a history with an accepted list added
 pub is-longer : (h : History) (xs : List Change) → IsLog (log h) → AreAccepted (log h) xs → IsLog (log (and_then h xs))
 is-longer h xs is all = subst IsLog (sym (log-all h xs)) (accepted-all_then (log h) xs is all)
 
@@ -48,7 +48,7 @@ is-longer h xs is all = subst IsLog (sym (log-all h xs)) (accepted-all_then (log
 pub is-before : (h g : History) → BeginsWith h g → IsLog (log h) → IsLog (log g)
 is-before h g begins is = log-before (log h) (log g) (log-begins h g begins) is
 
--- where no list is empty, there are no more lists than changes
+-- if no list is empty, there are no more lists than changes
 pub few-lists : (xs : List (List Change)) → All (λ ys. 0 < length ys) xs → length xs ≤ length (one_by_one xs)
 few-lists [] some = omega arith
 few-lists (x ∷ xs) some = let rest = few-lists xs (All-tail (λ ys. 0 < length ys) x xs some) in omega (arith, rest, All-head (λ ys. 0 < length ys) x xs some, length-append x (one_by_one xs))

@@ -1,4 +1,4 @@
--- Lists that hold the rows, as rows are added and rewritten.
+-- Lists that hold the rows, while rows are added and rewritten.
 use Rattle.std.proofs.Common.{◌≡◌, ◌≢◌, ◌<◌, ◌+◌, ℕ, suc, List, [], ◌∷◌, ◌++◌, length, get_or-set_same, Option, Some, None, Bool, true, false, cond, refl, sym, ap, ◌∙◌, subst, arith, append-nil}
 use Rattle.std.specs.Prelude.{◌==◌, ◌&&◌, is_none, is_some, slice_set, slice_index_or}
 use Rattle.std.proofs.lemmas.List.{get_or-set_other, length-map}
@@ -7,10 +7,10 @@ use Rattle.msg_names.specs.declared.value.ClassRef.{ClassRef}
 use Rattle.msg_names.specs.declared.value.ImpRef.{ImpRef}
 use Rattle.msg_names.specs.declared.value.Selector.{Selector}
 use Rattle.msg_names.specs.Number.{selector_number, imp_number}
-use Rattle.msg_tables.specs.Methods.{method_numbers}
+use Rattle.msg_rows.specs.Methods.{method_numbers}
 use Rattle.msg_names.specs.ClassRef.{same_class, slot_of}
 use Rattle.msg_tables.specs.Rows.{Row, own}
-use Rattle.msg_tables.specs.RowList.{own_in, set_last}
+use Rattle.msg_rows.specs.RowList.{own_in, set_last}
 use Rattle.msg_tables.specs.After.{rows_at, of_class, of_meta, set_own}
 use Rattle.msg_tables.specs.Stands.{Holds, pairs_at}
 use Rattle.msg_tables.specs.View.{kept}
@@ -18,7 +18,7 @@ use Rattle.msg_tables.proofs.ListedLemmas.{own_in-set_last}
 use Rattle.msg_tables.proofs.LookupLemmas.{own-pairs_at}
 use Rattle.msg_names.proofs.ClassRefLemmas.{slot_of-same, same_class-is, same_class-refl}
 
--- two class references that test as two have two places
+-- two different class references have different places
 slot_of-apart : (c d : ClassRef) → same_class c d ≡ false → slot_of d ≢ slot_of c
 slot_of-apart c d e h =
     let same : d ≡ c = slot_of-same d c h in
@@ -60,7 +60,7 @@ holds-append lists rows c ms inside holds =
     (ap (λ ps. ps ++ ms) (holds.at c) ∙ ap (λ ps. pairs_at c rows ++ ps) (sym (pairs_at-rows_at c c true ms (same_class-refl c))) ∙ sym (pairs_at-append c rows (rows_at c ms)))
     (λ d e. pairs_at-append d rows (rows_at c ms) ∙ ap (λ ps. pairs_at d rows ++ ps) (pairs_at-rows_at c d false ms e) ∙ append-nil (pairs_at d rows))
 
--- a class and its metaclass are two
+-- a class and its metaclass are different
 pub class-apart : (k : ℕ) → same_class (of_class k) (of_meta k) ≡ false
 class-apart k = step (k == k)
   where

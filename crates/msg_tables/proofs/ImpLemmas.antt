@@ -1,4 +1,4 @@
--- At a log each row's implementation is one that there is, so what a lookup finds is one.
+-- At a log each row's implementation exists, so a lookup finds one that exists.
 use Rattle.std.proofs.Common.{◌≡◌, ◌≤◌, ℕ, List, [], ◌∷◌, ◌++◌, Option, Some, None, Bool, true, false, cond, refl, sym, ap, ◌∙◌, subst, append_assoc, append-nil, arith}
 use Rattle.std.specs.Prelude.{◌==◌, ◌&&◌, ◌||◌, nat_le, nat_lt, unwrap_or, reverse, is_some, is_none, All}
 use Rattle.std.specs.List.{list_any, list_all}
@@ -18,7 +18,8 @@ use Rattle.msg_tables.specs.Methods.{MethodsOf}
 use Rattle.msg_tables.specs.After.{of_class, of_meta, rows_at, row, list_rows, opening_table, set_own, set_method, without_own, without_class, rows_after, table_after}
 use Rattle.msg_tables.specs.Log.{Log, empty, and_then, table, lookup}
 use Rattle.msg_tables.specs.Refusal.{refusal, AreAccepted, IsLog, conditions, no_imp}
-use Rattle.msg_tables.specs.Rows.{Row, is_at, or_else, own, holder_at, lookup_in, lookup_at}
+use Rattle.msg_rows.specs.RowList.{or_else}
+use Rattle.msg_tables.specs.Rows.{Row, is_at, own, holder_at, lookup_in, lookup_at}
 use Rattle.msg_tables.proofs.LogLemmas.{table-and_then}
 use Rattle.msg_tables.proofs.LimitLemmas.{none_holds}
 use Rattle.msg_tables.proofs.ListedLemmas.{and_both}

@@ -1,4 +1,4 @@
--- The implementations of a selector in a class reference, and how many rows there are, as rows are
+-- The implementations of a selector in a class reference, and the number of rows, while rows are
 -- added, rewritten and removed.
 use Rattle.std.proofs.Common.{◌≡◌, ◌+◌, ℕ, suc, List, [], ◌∷◌, ◌++◌, length, Option, Some, None, Bool, true, false, cond, refl, sym, ap, ap₂, ◌∙◌, subst, arith}
 use Rattle.std.specs.Prelude.{◌==◌, ◌&&◌, not, is_some, is_none}
@@ -6,12 +6,13 @@ use Rattle.msg_names.proofs.TestLemmas.{equal, same_number}
 use Rattle.msg_names.proofs.ClassRefLemmas.{same_class-is, same_class-refl}
 use Rattle.msg_names.specs.declared.value.ClassRef.{ClassRef}
 use Rattle.msg_names.specs.ClassRef.{same_class}
-use Rattle.msg_tables.specs.Rows.{Row, is_at, own, or_else}
+use Rattle.msg_rows.specs.RowList.{or_else}
+use Rattle.msg_tables.specs.Rows.{Row, is_at, own}
 use Rattle.msg_tables.specs.After.{set_own, set_method, without_own, without_class}
 use Rattle.msg_tables.specs.Undo.{imps_of, count_at}
-use Rattle.msg_tables.proofs.OrElseLemmas.{or_else_none}
+use Rattle.msg_rows.proofs.OrElseLemmas.{or_else_none}
 
--- 1 where it holds
+-- 1 if the fact holds
 abbrev pub one : Bool → ℕ
 one b = cond b 1 0
 
@@ -37,7 +38,7 @@ some-else : (o : Option ℕ) (k : ℕ) → is_none (or_else o (Some k)) ≡ fals
 some-else None k = refl
 some-else (Some j) k = refl
 
--- one that was dropped comes again
+-- an implementation that was removed is added again
 pub drop-back : (is : List ℕ) (i : ℕ) → last_of is ≡ Some i → drop_end is ++ i ∷ [] ≡ is
 drop-back [] i e = cc
 drop-back (j ∷ []) i e = ap (λ o. cond (is_some o) (at o) []) (sym e)
@@ -62,7 +63,7 @@ own-imps (r ∷ rs) c s = step (is_at c s r) (own-imps rs c s)
     step true e = ap (λ o. or_else o (Some r.imp)) e
     step false e = or_else_none (own rs c s) ∙ e
 
--- a row is at the class reference and selector of another that is at those
+-- a row at the class reference and selector of another row is at the same ones as that
 pub at-same : (r : Row) (c d : ClassRef) (s u : ℕ) → is_at c s r ≡ true → is_at d u r ≡ (same_class c d && (s == u))
 at-same r c d s u e = step (same_class r.class c) refl (r.sel == s) refl e
   where
@@ -167,7 +168,7 @@ module _ (c : ClassRef) (s : ℕ) where
       step true e false f = imps-without_other d u rows (rw (e, f) refl)
       step false e b f = imps-without_other d u rows (rw e refl)
 
-  -- one row fewer, where there is one
+  -- one row fewer, if there is one
   pub count-without : (test : ClassRef → Bool) (rows : List Row) → count_at test (without_own c s rows) + cond (is_some (own rows c s)) (cond (test c) 1 0) 0 ≡ count_at test rows
   count-without test [] = refl
   count-without test (r ∷ rs) = step (is_at c s r) refl (own rs c s) refl (count-without test rs)

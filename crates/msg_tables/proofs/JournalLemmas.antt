@@ -1,4 +1,4 @@
--- What a journal tells of is taken back.
+-- What a journal describes is taken back.
 use Rattle.std.proofs.Common.{◌≡◌, ◌<◌, ◌≤◌, ◌+◌, ◌-◌, ℕ, zero, suc, List, [], ◌∷◌, ◌++◌, append-nil, append_assoc, length, length-append, take, drop, Option, Some, None, option_map, Bool, true, false, cond, refl, sym, ap, ◌∙◌, subst, arith}
 use Rattle.std.specs.Prelude.{slice_set, slice_index_or, ◌==◌, ◌&&◌, is_none, is_some}
 use Rattle.std.proofs.lemmas.List.{get_or-set_same, length-set}
@@ -16,14 +16,13 @@ use Rattle.msg_tables.specs.declared.presence.Presence.{Presence}
 use Rattle.msg_tables.specs.After.{of_class, of_meta}
 use Rattle.msg_tables.specs.Chain.{is_present, presence_of}
 use Rattle.msg_tables.specs.Journal.{lists_before, supers_before, order_before, before_all, makes, added_all, AllFitBack, FitsBack, IsJournalOf}
-use Rattle.msg_tables.specs.RowList.{HaveGrown, own_in, last_index, set_last, with_row_at, without_last, without_row}
-use Rattle.msg_tables.specs.Rows.{or_else}
+use Rattle.msg_rows.specs.RowList.{or_else, HaveGrown, own_in, last_index, set_last, with_row_at, without_last, without_row}
 use Rattle.msg_tables.specs.View.{TablesView, kept}
 use Rattle.msg_tables.proofs.HoldsLemmas.{kept-other, class-apart}
 use Rattle.msg_tables.proofs.ListedLemmas.{own_in-set_last}
-use Rattle.msg_tables.proofs.PopLemmas.{without-added}
-use Rattle.msg_tables.proofs.RowLemmas.{is_none-own_in, set_last-none}
-use Rattle.msg_tables.proofs.RoomLemmas.{grown-on, grown-same}
+use Rattle.msg_rows.proofs.PopLemmas.{without-added}
+use Rattle.msg_rows.proofs.RowLemmas.{is_none-own_in, set_last-none}
+use Rattle.msg_rows.proofs.RoomLemmas.{grown-on, grown-same}
 
 -- ---- the entries, one after another
 
@@ -31,7 +30,7 @@ pub before-append : {A : Type 0} (f : Entry → A → A) (xs ys : List Entry) (a
 before-append f [] ys a = refl
 before-append f (x ∷ xs) ys a = ap (f x) (before-append f xs ys a)
 
--- there is room for what an entry gives back in more room, too
+-- if there is room for what an entry gives back, more room is enough too
 fit-more : (rooms more : List ℕ) (n m : ℕ) (lists : List (List (ℕ × ℕ))) (order : List ℕ) (e : Entry) → HaveGrown rooms more → n ≤ m → FitsBack rooms n lists order e → FitsBack more m lists order e
 fit-more rooms more n m lists order (Added c s) grown same fit = tt
 fit-more rooms more n m lists order (Rewrote c s i) grown same fit = tt
@@ -52,7 +51,7 @@ fit-append rooms n lists order (x ∷ xs) ys first second =
     let head' = subst (λ o. FitsBack rooms n (lists_before x (before_all lists_before (xs ++ ys) lists)) o x) (sym (ap (order_before x) (before-append order_before xs ys order))) head in
     (head', fit-append rooms n lists order xs ys first.1 second)
 
--- the classes stay where none was made
+-- the classes stay the same if none was made
 pub supers-kept : (e : Entry) (supers : List (Option Presence)) → makes e ≡ false → supers_before e supers ≡ supers
 supers-kept (Added c n) supers none = refl
 supers-kept (Rewrote c s i) supers none = refl
@@ -60,7 +59,7 @@ supers-kept (Removed c s i at) supers none = refl
 supers-kept (Made k) supers none = cc
 supers-kept (Disposed k d at) supers none = cc
 
--- and how many there are
+-- and their number
 pub supers-length : (es : List Entry) (supers : List (Option Presence)) → length (before_all supers_before es supers) ≡ length supers
 supers-length [] supers = refl
 supers-length (Added c n ∷ es) supers = supers-length es supers
@@ -69,7 +68,7 @@ supers-length (Removed c s i at ∷ es) supers = supers-length es supers
 supers-length (Made k ∷ es) supers = length-set (before_all supers_before es supers) k None ∙ supers-length es supers
 supers-length (Disposed k d at ∷ es) supers = length-set (before_all supers_before es supers) k (Some (record { superclass = d })) ∙ supers-length es supers
 
--- those before, and those behind them
+-- those before, and those after them
 pub fit-front : (rooms : List ℕ) (n : ℕ) (lists : List (List (ℕ × ℕ))) (order : List ℕ) (xs ys : List Entry) → AllFitBack rooms n lists order (xs ++ ys) → AllFitBack rooms n (before_all lists_before ys lists) (before_all order_before ys order) xs
 fit-front rooms n lists order [] ys all = tt
 fit-front rooms n lists order (x ∷ xs) ys all =
@@ -215,7 +214,7 @@ back-order order k =
     let count : length (order ++ k ∷ []) - 1 ≡ length order = omega (arith, length-append order (k ∷ [])) in
     ap (λ n. take n (order ++ k ∷ [])) count ∙ take-append_seam order (k ∷ [])
 
--- ---- a row that left
+-- ---- a row that was removed
 
 put-at : (s : ℕ) (ms : List (ℕ × ℕ)) (sel : Selector) (imp : ImpRef) (at : ℕ) → selector_number sel ≡ s → last_index s ms ≡ Some at → own_in s ms ≡ Some (imp_number imp) → with_row_at at sel imp (without_row s ms) ≡ ms
 put-at s [] sel imp at named last own = cc

@@ -21,7 +21,7 @@ least-first (x ∷ xs) more f e = at_test x.0 (least-first xs more f) e
     at_test true rest h = h
     at_test false rest h = rest h
 
--- where none of the first holds the others are left
+-- if none of the first holds, the others are left
 pub least-next : (first more : List (Bool × ChangeFault)) → least_change_fault first ≡ None → least_change_fault (first ++ more) ≡ least_change_fault more
 least-next [] more e = refl
 least-next (x ∷ xs) more e = at_test x.0 (least-next xs more) e
@@ -31,7 +31,7 @@ least-next (x ∷ xs) more e = at_test x.0 (least-next xs more) e
     at_test false rest h = rest h
 
 module _ (h : Log) (c : ClassRef) (s : Selector) (i : ImpRef) where
-  -- where the row could not stand the fault is that
+  -- if the row could not be there, that is the fault
   pub unfit-add : (f : ChangeFault) → least_change_fault (unfit h c s i) ≡ Some f → refusal h (Add c s i) ≡ Some f
   unfolding refusal
   unfit-add f e = least-first (unfit h c s i) ((has_own h c (selector_number s), MethodPresent) ∷ (is_full h 1, Limit) ∷ []) f e
@@ -84,7 +84,7 @@ pub refusal-make : (h : Log) (k : ℕ) (d : Option ℕ) (lacking full absent : B
 unfolding refusal
 refusal-make h k d lacking full absent a b e = rw (a, b, e) refl
 
--- the faults of a row that is to leave
+-- the faults of a row that is to be removed
 pub refusal-remove : (h : Log) (c : ClassRef) (s : Selector) (absent odd has full : Bool) → no_class h c ≡ absent → unlike h (selector_number s) (selector_number s) ≡ odd → has_own h c (selector_number s) ≡ has → is_full h 0 ≡ full
     → refusal h (Remove c s) ≡ least_change_fault ((absent, NoClass) ∷ (odd, ArgumentCount) ∷ (not has, NoMethod) ∷ (full, Limit) ∷ [])
 unfolding refusal

@@ -20,7 +20,8 @@ use Rattle.msg_tables.specs.declared.presence.Presence.{Presence}
 use Rattle.msg_tables.specs.After.{of_class, of_meta, row, rows_at, set_own, set_method, without_own, without_class, rows_after, supers_after, table_after}
 use Rattle.msg_tables.specs.Chain.{presence_of, is_present, is_directly_below, has_subclass, chain_of}
 use Rattle.msg_tables.specs.Origin.{CountsView, OriginView, class_total, lacks_imp, misfits_in, unlike_in, differ}
-use Rattle.msg_tables.specs.Rows.{Row, ClassTable, is_at, own, or_else, holder_in, holder_at, lookup_at}
+use Rattle.msg_rows.specs.RowList.{or_else}
+use Rattle.msg_tables.specs.Rows.{Row, ClassTable, is_at, own, holder_in, holder_at, lookup_at}
 use Rattle.msg_tables.specs.Undo.{fits_in}
 use Rattle.msg_tables.proofs.AgainstLemmas.{May, absent, absent_superclass, against}
 use Rattle.msg_tables.proofs.ClassLemmas.{Grounded, made-stays, made-grounded, gone-stays, gone-grounded}
@@ -88,7 +89,7 @@ differ-turned (Some n) None e = cc
 differ-turned None (Some m) e = cc
 differ-turned None None e = cc
 
--- two selectors that are alike take the same implementations
+-- two selectors with the same number of arguments fit the same implementations
 misfits-like : (counts : Option CountsView) (s u i : ℕ) → unlike_in counts s u ≡ false → misfits_in counts u i ≡ false → misfits_in counts s i ≡ false
 misfits-like None s u i e f = refl
 misfits-like (Some c) s u i e f = differ-then (slice_get c.colons (s - 1)) (slice_get c.colons (u - 1)) (slice_get c.args (i - 1)) e f
@@ -190,7 +191,7 @@ without_class-sound o supers after k (r ∷ rs) stay all =
     step false e here fits rest =
         and-both (is_sound_row o after r) (list_all (is_sound_row o after) (without_class k rs)) (and-both (is_present after r.class.class) (fits_in o.counts (r.sel, r.imp)) (stay r.class.class (other_number r.class.class k e) here) fits) rest
 
--- ---- how many rows
+-- ---- the number of rows
 
 pub length-without : (c : ClassRef) (s : ℕ) (rows : List Row) → length (without_own c s rows) ≤ length rows
 length-without c s [] = omega arith
@@ -217,7 +218,7 @@ module _ (o : OriginView) (t : ClassTable) (kept : Kept o t) where
   there : (b : Bool) → not b ≡ false → b ≡ true
   there b e = not_false b e
 
-  -- rows alone are changed
+  -- only rows are changed
   same-classes : (rows : List Row) → list_all (is_sound_row o t.supers) rows ≡ true → length rows ≤ o.limits.rows → Kept o (record { supers = t.supers; rows = rows })
   same-classes rows sound few = record { classes = kept.classes; listed = kept.listed; grounded = kept.grounded; rows = sound; few = few }
 
@@ -235,7 +236,7 @@ module _ (o : OriginView) (t : ClassTable) (kept : Kept o t) where
   set-one c s i here imp args =
       same-classes (set_own c s i t.rows) (set_own-sound o t.supers c s i t.rows (sound-one c s i here imp args) kept.rows) (let n = length-set_own c s i t.rows in omega (arith, n, kept.few))
 
-  -- a method stands in a class that is present, and fits
+  -- a method is in a class that is present, and fits
   pub held-sound : (c p : ClassRef) (s : ℕ) → holder_at t c s ≡ Some p → (is_present t.supers p.class ≡ true) × (fits_in o.counts (s, lookup_at t c s) ≡ true)
   held-sound c p s e = own-sound o t.supers t.rows p s (lookup_at t c s) kept.rows (sym (lookup-holder t.rows (chain_of t.supers c) s p e))
 
@@ -346,7 +347,7 @@ module _ (o : OriginView) (t : ClassTable) (kept : Kept o t) where
         few = kept.few;
       }
 
-  -- and of one that may be disposed of
+  -- and of a class that may be disposed of
   pub record Leaves (k : ℕ) : Type 0 where
     pub here : is_present t.supers k ≡ true
     pub inside : k < length t.supers

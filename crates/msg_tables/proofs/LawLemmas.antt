@@ -16,8 +16,8 @@ use Rattle.msg_tables.specs.Origin.{OriginView, IsSound, IsSoundList}
 use Rattle.msg_tables.specs.Methods.{MethodsOf}
 use Rattle.msg_tables.specs.declared.change.Change.TheVariants.{Add, Replace, SetImp, Exchange, Attach, AddClass, Remove, DisposeClass}
 use Rattle.msg_tables.specs.Chain.{chain_of, chain_up, is_present, is_member}
-use Rattle.msg_tables.specs.Rows.{Row, own, or_else, chain, lookup_in, holder_at, lookup_at}
-use Rattle.msg_tables.specs.RowList.{own_in}
+use Rattle.msg_tables.specs.Rows.{Row, own, chain, lookup_in, holder_at, lookup_at}
+use Rattle.msg_rows.specs.RowList.{or_else, own_in}
 use Rattle.msg_tables.specs.After.{of_class, of_meta, row, rows_at, set_own, set_method, without_own, without_class, rows_after, supers_after, table_after, list_rows, opening_table}
 use Rattle.msg_tables.specs.Affected.{at_most_one, if_any, written_refs, is_affected, is_of_made}
 use Rattle.msg_tables.specs.Log.{Log, empty, and_then, table, lookup, holder, chain_at}
@@ -67,7 +67,7 @@ own-attached : (c d : ClassRef) (ms : List (ℕ × ℕ)) (u : ℕ) (rows : List 
 own-attached c d [] u rows apart = own-append rows [] d u
 own-attached c d (m ∷ ms) u rows apart = own-more c d (reverse (m ∷ ms)) u rows (apart-first c d [] apart)
 
--- away from where it writes a change leaves the own rows
+-- a change leaves the own rows where it doesn't write
 own-after : (h : Log) (x : Change) (d : ClassRef) (u : ℕ) → is_of_made x d ≡ false → Apart d (written_refs h x) → own (rows_after (table h) x) d u ≡ own (table h).rows d u
 unfolding written_refs holder
 own-after h (Add c s i) d u other-class apart = own-more c d ((selector_number s, imp_number i) ∷ []) u (table h).rows (apart-first c d [] apart)
@@ -139,7 +139,7 @@ is-there h c e = at (is_present (table h).supers c.class) e
     at true e = refl
     at false e = cc
 
--- before a class is made its lookups forward
+-- before a class is made, its lookups forward
 pub absent-forwards : (h : Log) (c : ClassRef) (s : ℕ) → no_class h c ≡ true → lookup h c s ≡ 0
 unfolding lookup no_class chain_of
 absent-forwards h c s e = at (is_present (table h).supers c.class) e
@@ -163,7 +163,7 @@ found-replaced h c s i here = found-own h (Replace c s i) c (selector_number s) 
     step true e = own-set_same c (selector_number s) (imp_number i) (table h).rows e
     step false e = own-one c (selector_number s) (imp_number i) (table h).rows
 
--- a lookup that finds a method where it was, with what it now has
+-- a lookup that finds a method at its former place, with what it has now
 found-there : (h : Log) (x : Change) (e p : ClassRef) (s i : ℕ) → supers_after (table h).supers x ≡ (table h).supers → holder h e s ≡ Some p → ((d : ClassRef) → is_some (own (rows_after (table h) x) d s) ≡ is_some (own (table h).rows d s)) → own (rows_after (table h) x) p s ≡ Some i
     → lookup (and_then h x) e s ≡ i
 unfolding holder
@@ -279,13 +279,13 @@ found-attached-meta h k ms cs s i here e =
     let first = (table h).rows ++ rows_at (of_class k) (reverse ms) in
     found-own h (Attach k ms cs) (of_meta k) s i (is-there h (of_class k) here) (own-append first (rows_at (of_meta k) (reverse cs)) (of_meta k) s ∙ ap (λ o. or_else o (own first (of_meta k) s)) (own-rows_at (of_meta k) (reverse cs) s ∙ e))
 
--- lists without a method bring no row of it
+-- lists without a method of a selector bring no row of it
 own-later : (later : List MethodsOf) (k : ClassRef) (s : ℕ) → All (Lacks k s) later → own (list_rows later) k s ≡ None
 own-later [] k s all = refl
 own-later (d ∷ ds) k s all =
     own-append (rows_at d.class d.methods) (list_rows ds) k s ∙ ap₂ or_else (own-later ds k s (All-tail (Lacks k s) d ds all)) (All-head (Lacks k s) d ds all)
 
--- the method of a list that is the last with one
+-- the method in the last list that has one
 own-opened : (o : OriginView) (before later : List MethodsOf) (l : MethodsOf) (s i : ℕ) → o.lists ≡ before ++ l ∷ later → All (Lacks l.class s) later → own_in s l.methods ≡ Some i
     → own (table (empty o)).rows l.class s ≡ Some i
 unfolding table opening_table

@@ -1,4 +1,4 @@
--- A class below which none is leaves the preorder, where it stands right after its superclass.
+-- A class with no class below it leaves the preorder, in which it comes right after its superclass.
 use Rattle.std.proofs.Common.{◌≡◌, ◌≢◌, ◌<◌, ◌≤◌, ◌+◌, ◌++◌, ℕ, zero, suc, List, [], ◌∷◌, length, length-append, Option, Some, None, Bool, true, false, refl, sym, ap, ◌∙◌, subst, append_assoc, arith}
 use Rattle.std.specs.Prelude.{◌==◌, ◌||◌, if◌then◌else◌, is_some, nat_lt, slice_set}
 use Rattle.std.specs.List.{list_any}
@@ -17,7 +17,7 @@ use Rattle.msg_tables.proofs.DisposedLemmas.{present_count-gone}
 use Rattle.msg_tables.proofs.OrderLemmas.{present-inside}
 use Rattle.msg_tables.proofs.PresenceLemmas.{chain-apart, chain_of-gone}
 
--- ---- numbers that are told apart
+-- ---- different numbers
 
 apart : (a b : ℕ) → a ≢ b → (a == b) ≡ false
 apart a b ne = step (a == b) refl
@@ -64,14 +64,14 @@ module _ (depth : ℕ → ℕ) (k : ℕ) (ys : List ℕ) (flat : first_depth dep
   first-mid [] = flat
   first-mid (x ∷ xs) = omega arith
 
--- ---- those that stay are followed as they were
+-- ---- those that stay have the same classes after them
 
 module _ (supers : List (Option Presence)) (depth : ℕ → ℕ) (k : ℕ) (leaf : has_subclass supers k ≡ false) where
   below-same : (x j : ℕ) → (k == j) ≡ false → descends (slice_set supers k None) (of_class x) (of_class j) ≡ descends supers (of_class x) (of_class j)
   unfolding descends
   below-same x j other = ap (is_member (of_class x)) (chain_of-gone supers k leaf (of_class j) (λ same. other_number k j other (sym same)))
 
-  -- nothing stands below it
+  -- nothing is below it
   none-below : (j : ℕ) → (k == j) ≡ false → descends supers (of_class k) (of_class j) ≡ false
   unfolding descends
   none-below j other = step (is_member (of_class k) (chain_of supers (of_class j))) refl
@@ -109,7 +109,7 @@ module _ (supers : List (Option Presence)) (depth : ℕ → ℕ) (k : ℕ) (leaf
           mid-apart x [] none = turned k x (neither (k == x) (is_in x ys) none).0
           mid-apart x (z ∷ xs) none = mid-apart x xs (neither (z == x) (is_in x (xs ++ k ∷ ys)) none).1
 
--- ---- where each stands once
+-- ---- if each is there once
 
 once-before : (supers : List (Option Presence)) (depth : ℕ → ℕ) (all : List ℕ) (x : ℕ) (xs ys : List ℕ) → AreFollowed supers depth all (xs ++ x ∷ ys) → is_in x xs ≡ false
 once-before supers depth all x [] ys f = refl
@@ -126,7 +126,7 @@ followed-at : (supers : List (Option Presence)) (depth : ℕ → ℕ) (all : Lis
 followed-at supers depth all x [] ys f = f.0
 followed-at supers depth all x (z ∷ xs) ys f = followed-at supers depth all x xs ys f.1
 
--- what comes after one without any below it isn't deeper
+-- what comes after a class with no class below it isn't deeper
 flat-after : (supers : List (Option Presence)) (depth : ℕ → ℕ) (all : List ℕ) (k : ℕ) (ys : List ℕ) → has_subclass supers k ≡ false → ((j : ℕ) → is_in j ys ≡ true → is_in j all ≡ true) → IsFollowed supers depth all k ys → first_depth depth ys ≤ depth k
 flat-after supers depth all k [] leaf among f = omega arith
 flat-after supers depth all k (y ∷ ys) leaf among f = step (nat_lt (depth k) (depth y)) refl
@@ -147,7 +147,7 @@ flat-after supers depth all k (y ∷ ys) leaf among f = step (nat_lt (depth k) (
 -- ---- links
 
 module _ (depth : ℕ → ℕ) (next : ℕ → Option ℕ) (k : ℕ) (ys : List ℕ) where
-  -- right after its superclass d: whose next is then the one after it
+  -- it comes right after its superclass d, whose next is then the one after it
   module _ (d : ℕ) (now : ℕ → Option ℕ) (mine : now d ≡ next_in depth ys) (others : (x : ℕ) → (x == d) ≡ false → now x ≡ next x) where
     linked-keep : (xs : List ℕ) → is_in d xs ≡ false → AreLinked depth next xs → AreLinked depth now xs
     linked-keep [] none l = l
@@ -161,7 +161,7 @@ module _ (depth : ℕ → ℕ) (next : ℕ → Option ℕ) (k : ℕ) (ys : List 
         same [] = refl
         same (z ∷ zs) = refl
 
--- ---- where it stands
+-- ---- its place
 
 pub record Splits (ks : List ℕ) (k : ℕ) : Type 0 where
   pub before : List ℕ
@@ -178,7 +178,7 @@ split-at (x ∷ xs) k there = step (x == k) refl (λ rest. split-at xs k rest)
         let s = rest (ap (λ b. b || is_in k xs) (sym e) ∙ there) in
         record { before = x ∷ s.before; after = s.after; is = ap (λ zs. x ∷ zs) s.is }
 
--- no class is as deep as there are classes
+-- no class has as great a depth as there are classes
 shallow-all : (supers : List (Option Presence)) (depth : ℕ → ℕ) (all ks : List ℕ) (n k : ℕ) → AreFollowed supers depth all ks → first_depth depth ks ≤ n → is_in k ks ≡ true → depth k < n + length ks
 shallow-all supers depth all [] n k f few there = cc
 shallow-all supers depth all (x ∷ xs) n k f few there = step (x == k) refl (λ rest. shallow-all supers depth all xs (suc n) k f.1 (let s = f.0.step in omega (arith, s, few)) rest)

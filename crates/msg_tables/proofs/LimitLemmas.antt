@@ -1,4 +1,4 @@
--- What an accepted change keeps within.
+-- The limits that an accepted change keeps.
 use Rattle.std.proofs.Common.{◌≡◌, ℕ, zero, suc, ◌+◌, ◌<◌, List, [], ◌∷◌, length, get_or, Bool, true, false, cond, Some, None, refl, arith}
 use Rattle.std.specs.Prelude.{nat_le, nat_lt, ◌||◌}
 use Rattle.std.proofs.lemmas.Bool.Decides.{nat_tests}
@@ -9,7 +9,7 @@ use Rattle.msg_tables.specs.declared.fault.ChangeFault.TheVariants.{Limit}
 use Rattle.msg_tables.specs.Log.{Log, table}
 use Rattle.msg_tables.specs.Refusal.{refusal, least_change_fault, conditions, is_full}
 
--- where no fault is found, none of the conditions holds
+-- if no fault is found, none of the conditions holds
 pub none_holds : (fs : List (Bool × ChangeFault)) (k : ℕ) → least_change_fault fs ≡ None → (get_or fs k (false, Limit)).0 ≡ false
 none_holds [] k e = refl
 none_holds (f ∷ fs) zero e = step f.0 e
@@ -34,7 +34,7 @@ not_full h n e = step (nat_le h.origin.limits.changes (length h.changes)) refl e
     step true is e = cc
     step false is e = below h.origin.limits.changes (length h.changes) is
 
--- a change is accepted where fewer were than may be
+-- a change is accepted only after fewer changes than the limit
 pub accepted_few : (h : Log) (x : Change) → refusal h x ≡ None → length h.changes < h.origin.limits.changes
 unfolding refusal
 accepted_few h (Add c s i) e = not_full h _ (none_holds (conditions h (Add c s i)) 4 e)

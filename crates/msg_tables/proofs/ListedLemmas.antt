@@ -1,15 +1,14 @@
 -- Rows whose implementations are listed.
-use Rattle.std.proofs.Common.{◌≡◌, ◌<◌, ◌≤◌, ℕ, zero, suc, List, [], ◌∷◌, ◌++◌, length, get_or, Option, Some, None, option_map, Bool, true, false, cond, refl, sym, ◌∙◌, ap, subst, arith}
+use Rattle.std.proofs.Common.{◌≡◌, ◌≤◌, ℕ, zero, suc, List, [], ◌∷◌, ◌++◌, Option, Some, None, option_map, Bool, true, false, cond, refl, sym, subst, arith}
 use Rattle.std.specs.Prelude.{◌==◌, ◌&&◌, nat_le, slice_index_or, slice_set, reverse, is_some, is_none, IfSome}
 use Rattle.std.specs.List.{list_all}
 use Rattle.std.proofs.lemmas.Bool.Decides.{nat_tests}
 use Rattle.std.proofs.lemmas.Option.{same_Some}
-use Rattle.std.proofs.lemmas.List.{get_or-map, reverse-append}
+use Rattle.std.proofs.lemmas.List.{reverse-append}
 use Rattle.msg_names.specs.declared.value.ImpRef.{ImpRef}
 use Rattle.msg_names.specs.Number.{imp_number}
 use Rattle.msg_names.proofs.TestLemmas.{both}
-use Rattle.msg_tables.specs.Rows.{or_else}
-use Rattle.msg_tables.specs.RowList.{RowList, own_in, set_last, rows_of}
+use Rattle.msg_rows.specs.RowList.{or_else, own_in, set_last}
 use Rattle.msg_tables.specs.Origin.{are_listed}
 
 pub and_both : (a b : Bool) → a ≡ true → b ≡ true → (a && b) ≡ true
@@ -27,17 +26,13 @@ own_in-listed n s i (m ∷ ms) all e =
     step None true first rest e = let same : m.1 ≡ i = same_Some m.1 i e in grind (arith, nat_tests)
     step None false first rest e = cc
 
--- so is each of the lists'
+-- so is the implementation of each of the lists
 pub listed_at : (n k : ℕ) (lists : List (List (ℕ × ℕ))) → list_all (are_listed n) lists ≡ true → are_listed n (slice_index_or lists k []) ≡ true
 listed_at n k [] all = refl
 listed_at n zero (ms ∷ lists) all = (both (are_listed n ms) (list_all (are_listed n) lists) all).0
 listed_at n (suc k) (ms ∷ lists) all = listed_at n k lists (both (are_listed n ms) (list_all (are_listed n) lists) all).1
 
--- the rows that were read
-pub read-rows : (lists : List RowList) (k : ℕ) (r : RowList) → k < length lists → r ≡ get_or lists k r → r.rows ≡ slice_index_or (rows_of lists) k []
-read-rows lists k r inside read = ap (λ (x : RowList). x.rows) read ∙ sym (get_or-map (λ (x : RowList). x.rows) lists k r [] inside)
-
--- rows that are put together
+-- rows that are appended
 pub listed-append : (n : ℕ) (xs ys : List (ℕ × ℕ)) → are_listed n xs ≡ true → are_listed n ys ≡ true → are_listed n (xs ++ ys) ≡ true
 listed-append n [] ys a b = b
 listed-append n (x ∷ xs) ys a b =

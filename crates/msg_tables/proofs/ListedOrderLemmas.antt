@@ -1,4 +1,4 @@
--- The listed classes in their order, and as an image is opened.
+-- The listed classes in their order, when an image is opened.
 use Rattle.std.proofs.Common.{◌≡◌, ◌<◌, ◌+◌, ◌++◌, ℕ, zero, suc, List, [], ◌∷◌, length, map, Option, Some, None, true, slice_get, refl, sym, ap, ap₂, ◌∙◌, length-append, arith}
 use Rattle.std.specs.Prelude.{replicate, is_some}
 use Rattle.std.proofs.lemmas.List.{length-map, length-replicate}
@@ -54,7 +54,7 @@ order-listed o order is = record {
   count = is.count ∙ sym (opened-count o.superclasses o.made);
 }
 
--- the classes as they are opened, one by one
+-- the classes at the opening, one by one
 opened-at : (cs : List (Option ℕ)) (n k : ℕ) (o : Option ℕ) → slice_get cs k ≡ Some o → slice_get (map listed cs ++ replicate n None) k ≡ Some (Some (record { superclass = o }))
 opened-at [] n k o e = cc
 opened-at (c ∷ cs) n zero o e = ap (λ s. Some (Some (record { superclass = s }))) (same_Some c o e)
@@ -69,6 +69,6 @@ opened-class o k d e = opened-at o.superclasses o.made k d e
 pub length-opened : (o : OriginView) → length (opened_supers o) ≡ class_total o
 length-opened o = length-append (map listed o.superclasses) (replicate o.made None) ∙ ap₂ (λ m n. m + n) (length-map o.superclasses listed) (length-replicate o.made None)
 
--- a listed class is present as the tables are opened
+-- a listed class is present when the tables are opened
 pub opened-is_present : (o : OriginView) (k : ℕ) → k < length o.superclasses → is_present (opened_supers o) k ≡ true
 opened-is_present o k inside = opened-present o.superclasses o.made k inside

@@ -1,4 +1,4 @@
--- Logs that are longer by a change.
+-- Logs with a change added.
 use Rattle.std.proofs.Common.{◌≡◌, ℕ, List, [], ◌∷◌, ◌++◌, ◌+◌, map, replicate, length, length-append, Option, Some, None, refl, sym, ap₂, ◌∙◌, subst, append_assoc, append-nil}
 use Rattle.std.proofs.lemmas.List.{length-map, length-replicate}
 use Rattle.std.proofs.Math.ListN.{length-set}
@@ -50,7 +50,7 @@ accepted-push h [] x all none = (subst (λ cs. refusal (record { origin = h.orig
 accepted-push h (y ∷ ys) x all none =
     (all.0, accepted-push (and_then h y) ys x all.1 (subst (λ cs. refusal (record { origin = h.origin; changes = cs }) x ≡ None) (sym (append_assoc h.changes (y ∷ []) ys)) none))
 
--- a log that is longer by an accepted change is a log
+-- a log with an accepted change added is a log
 pub log-and_then : (h : Log) (x : Change) → IsLog h → refusal h x ≡ None → IsLog (and_then h x)
 unfolding IsLog
 log-and_then h x is none = accepted-push (empty h.origin) h.changes x is none
@@ -71,7 +71,7 @@ pub log-empty : (h : Log) → h.changes ≡ [] → IsLog h
 unfolding IsLog
 log-empty h e = rw e tt
 
--- what comes later is accepted where it comes
+-- a later change is accepted at its place
 pub accepted-suffix : (h : Log) (xs ys : List Change) → AreAccepted h (xs ++ ys) → AreAccepted (record { origin = h.origin; changes = h.changes ++ xs }) ys
 accepted-suffix h [] ys all = subst (λ cs. AreAccepted (record { origin = h.origin; changes = cs }) ys) (sym (append-nil h.changes)) all
 accepted-suffix h (x ∷ xs) ys all = subst (λ cs. AreAccepted (record { origin = h.origin; changes = cs }) ys) (append_assoc h.changes (x ∷ []) xs) (accepted-suffix (and_then h x) xs ys all.1)

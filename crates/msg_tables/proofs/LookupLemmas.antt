@@ -2,13 +2,13 @@
 use Rattle.std.proofs.Common.{◌≡◌, length, ◌<◌, ℕ, zero, suc, List, [], ◌∷◌, Option, Some, None, option_map, Bool, true, false, cond, refl, sym, ◌∙◌, ap}
 use Rattle.std.specs.Prelude.{◌==◌, ◌&&◌, unwrap_or, is_some}
 use Rattle.std.specs.Option.{option_map_or}
-use Rattle.msg_tables.proofs.OrElseLemmas.{or_else_none}
+use Rattle.msg_rows.proofs.OrElseLemmas.{or_else_none}
 use Rattle.msg_names.specs.declared.value.ClassRef.{ClassRef}
 use Rattle.msg_names.specs.ClassRef.{same_class}
 use Rattle.msg_tables.specs.Chain.{chain_up, chain_of, super_of, steps_of, only_present, is_present}
 use Rattle.msg_tables.specs.declared.presence.Presence.{Presence}
-use Rattle.msg_tables.specs.Rows.{Row, own, or_else, holder_in, lookup_in}
-use Rattle.msg_tables.specs.RowList.{own_in}
+use Rattle.msg_tables.specs.Rows.{Row, own, holder_in, lookup_in}
+use Rattle.msg_rows.specs.RowList.{or_else, own_in}
 use Rattle.msg_tables.specs.Log.{Log, table, lookup, holder, superclass}
 use Rattle.msg_tables.specs.Stands.{Holds, StandsAt, pairs_at}
 use Rattle.msg_tables.specs.View.{TablesView, kept, kept_method}
@@ -23,7 +23,7 @@ own-pairs_at c s (r ∷ rs) = step (same_class r.class c) (own-pairs_at c s rs)
     step true e = ap (λ o. or_else o (cond (r.sel == s) (Some r.imp) None)) e
     step false e = or_else_none (own rs c s) ∙ e
 
--- where the first with the method stands
+-- where the first class reference with the method is
 pub holder_in-kept : (lists : List (List (ℕ × ℕ))) (rows : List Row) → Holds lists rows → (cs : List ClassRef) (s : ℕ) → holder_in rows cs s ≡ option_map (λ m. m.0) (kept_method lists cs s)
 holder_in-kept lists rows holds [] s = refl
 holder_in-kept lists rows holds (c ∷ cs) s =
@@ -33,7 +33,7 @@ holder_in-kept lists rows holds (c ∷ cs) s =
     step None e = e
     step (Some i) e = refl
 
--- and what it has
+-- and its implementation
 pub lookup_in-kept : (lists : List (List (ℕ × ℕ))) (rows : List Row) → Holds lists rows → (cs : List ClassRef) (s : ℕ) → lookup_in rows cs s ≡ option_map_or (λ m. m.1) (kept_method lists cs s) 0
 lookup_in-kept lists rows holds [] s = refl
 lookup_in-kept lists rows holds (c ∷ cs) s =
@@ -60,7 +60,7 @@ module _ (t : TablesView) (h : Log) (stands : StandsAt t h) (c : ClassRef) where
   unfolding lookup
   lookup-stands s = lookup_in-kept t.lists (table h).rows stands.rows (chain_of (table h).supers c) s ∙ ap (λ supers. option_map_or (λ (m : ClassRef × ℕ). m.1) (kept_method t.lists (chain_of supers c) s) 0) (sym stands.supers)
 
--- the chain begins at the class reference, where that is present
+-- the chain begins at the class reference, if that is present
 pub chain-begins : (supers : List (Option Presence)) (c : ClassRef) → chain_of supers c ≡ chain_from (length supers) supers (only_present supers c)
 unfolding chain_of
 chain-begins supers c = at (is_present supers c.class)

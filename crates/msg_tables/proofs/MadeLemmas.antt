@@ -10,7 +10,7 @@ use Rattle.msg_tables.specs.Chain.{presence_of, is_present}
 use Rattle.msg_tables.specs.Order.{StandsBefore, IsOrder, present_count}
 use Rattle.msg_tables.proofs.OrderLemmas.{count-le}
 
--- one class more is present
+-- one more class is present
 pub present_count-made : (supers : List (Option Presence)) (k : ℕ) (p : Presence) → k < length supers → is_present supers k ≡ false → present_count (slice_set supers k (Some p)) ≡ suc (present_count supers)
 present_count-made [] k p inside absent = absurd (omega (arith, inside))
 present_count-made (None ∷ xs) zero p inside absent = omega arith
@@ -75,7 +75,7 @@ module _ (supers : List (Option Presence)) (order : List ℕ) (is : IsOrder supe
           let n = length-append order (k ∷ []) in
           stands-pushed (length order) (length (order ++ k ∷ [])) j (omega (arith, n)) (is.whole j (sym (ap is_some (elsewhere j (other_number j k other))) ∙ there))
 
--- there is room for one more, where one isn't present
+-- there is room for one more, if one isn't present
 absent-fewer : (supers : List (Option Presence)) (k : ℕ) → k < length supers → is_present supers k ≡ false → present_count supers < length supers
 absent-fewer [] k inside absent = absurd (omega (arith, inside))
 absent-fewer (None ∷ xs) zero inside absent = let few = count-le xs in omega (arith, few)

@@ -18,8 +18,8 @@ use Rattle.msg_tables.specs.Several.{and_all, refused_from, made_by, made_by_all
 use Rattle.msg_tables.specs.Stands.{StandsAt}
 use Rattle.msg_tables.specs.Undo.{undo, undo_all}
 use Rattle.msg_tables.specs.View.{IsKept, TablesView}
-use Rattle.msg_tables.specs.RowList.{HaveGrown}
-use Rattle.msg_tables.proofs.RoomLemmas.{grown-on}
+use Rattle.msg_rows.specs.RowList.{HaveGrown}
+use Rattle.msg_rows.proofs.RoomLemmas.{grown-on}
 use Rattle.msg_tables.proofs.StandsLemmas.{stands-kept}
 use Rattle.msg_tables.proofs.SeveralLemmas.{table-and_all}
 use Rattle.msg_tables.proofs.UndoJournalLemmas.{undo_all-snoc, undo_journal-append}
@@ -55,7 +55,7 @@ part-made x e journal longer old new written makes undoes journals = record {
   };
 }
 
--- ---- one change more
+-- ---- one more change
 
 accepted-snoc : (h : Log) (xs : List Change) (x : Change) → AreAccepted h xs → refusal (and_all h xs) x ≡ None → AreAccepted h (xs ++ x ∷ [])
 accepted-snoc h [] x all none = (none, tt)
@@ -79,7 +79,7 @@ beside-on old between new a b = record {
   rest = a.rest ∙ ap (λ (t : TablesView). record t { supers = old.supers; order = old.order; lists = old.lists; rooms = old.rooms; row_count = old.row_count; change_count = old.change_count }) b.rest;
 }
 
--- the change of a place, as lists of changes give it
+-- the change at a place, as lists of changes give it
 pub at-place : (xs : List Change) (i : ℕ) (x : Change) → slice_get xs i ≡ Some x → x ≡ slice_index_or xs i x
 at-place xs i x e = sym (get_or_from_slice_get xs i x x e)
 

@@ -1,4 +1,4 @@
--- Changes that add no row want no memory.
+-- Changes that add no row need no memory.
 use Rattle.std.proofs.Common.{◌≡◌, ◌<◌, ◌≤◌, ◌⊎◌, ℕ, List, [], ◌∷◌, ◌++◌, length, length-append, Option, Some, None, Bool, true, false, refl, ap, arith, ⊎_elim}
 use Rattle.std.specs.Option.{option_map_or}
 use Rattle.msg_names.specs.ClassRef.{same_class}

@@ -83,14 +83,14 @@ places-same w m p same = record {
 pub places-equal : (w : List ClassRef) (m : List ℕ) (p : List ClassRef) → p ≡ w → ArePlacesOf w m p
 places-equal w m p e = places-same w m p (λ c. ap (is_member c) e)
 
--- only of classes that were made or disposed of
+-- only those of classes that were made or disposed of
 pub places-made : (m : List ℕ) (p : List ClassRef) → ((c : ClassRef) → is_member c p ≡ true → is_of_one m c ≡ true) → ArePlacesOf [] m p
 places-made m p all = record {
   told = λ c e. cc;
   only = λ c e. or-first (is_of_one m c) false (all c e);
 }
 
--- rows that were added stand at one place
+-- rows that were added are at one place
 added-member : (d c : ClassRef) (m : ℕ × ℕ) (ms : List (ℕ × ℕ)) → is_member d (places_of (added_all c (m ∷ ms))) ≡ is_member d (c ∷ [])
 added-member d c m [] = refl
 added-member d c m (n ∷ ms) = ap (λ b. same_class d c || b) (added-member d c n ms) ∙ step (same_class d c)

@@ -1,4 +1,4 @@
--- Each class stands in an order once.
+-- Each class is in an order once.
 use Rattle.std.proofs.Common.{◌≡◌, ◌<◌, ◌≤◌, ◌+◌, ◌++◌, ◌⊎◌, inl, inr, ℕ, zero, suc, List, [], ◌∷◌, length, Option, Some, None, Bool, true, false, take, drop, slice_get, length-append, refl, sym, ap, ◌∙◌, arith}
 use Rattle.std.specs.Prelude.{◌==◌, ◌||◌, is_some, slice_set}
 use Rattle.std.proofs.lemmas.Bool.{true≢false, or_cases, false_from_ne_true, cases_eq, cases_lt}
@@ -29,7 +29,7 @@ in-take (x ∷ order) i zero j less e = absurd (omega (arith, less))
 in-take (x ∷ order) zero (suc place) j less e = ap (λ n. n || is_in j (take place order)) (ap (λ z. x == z) (sym (same_Some x j e)) ∙ equal x)
 in-take (x ∷ order) (suc i) (suc place) j less e = later-in j x (take place order) (in-take order i place j (omega (arith, less)) e)
 
--- ---- each class stands in an order once
+-- ---- each class is in an order once
 
 unset-count : (supers : List (Option Presence)) (k : ℕ) → present_count supers ≤ suc (present_count (slice_set supers k None))
 unset-count [] k = omega arith
@@ -43,7 +43,7 @@ none-present [] none = refl
 none-present (None ∷ xs) none = let rest = none-present xs (λ k. none (suc k)) in omega (arith, rest)
 none-present (Some p ∷ xs) none = let here : true ≡ false = none 0 in cc
 
--- a list that has all that are present is as long as there are of these
+-- a list that has all present classes is as long as their number
 covered : (ks : List ℕ) (supers : List (Option Presence)) → ((k : ℕ) → is_present supers k ≡ true → is_in k ks ≡ true) → present_count supers ≤ length ks
 covered [] supers all = let none = none-present supers (λ k. false_from_ne_true (is_present supers k) (λ e. true≢false (sym (all k e)))) in omega (arith, none)
 covered (x ∷ ks) supers all =
@@ -68,7 +68,7 @@ covered (x ∷ ks) supers all =
             pick (inl h) = absurd (other (sym (same_number x k h)))
             pick (inr h) = h
 
--- so what stands at a place of an order doesn't stand before it
+-- so what is at a place of an order isn't before it
 pub once : (supers : List (Option Presence)) (order : List ℕ) → IsOrder supers order → (place k : ℕ) → slice_get order place ≡ Some k → is_in k (take place order) ≡ false
 once supers order before place k at-place = false_from_ne_true (is_in k (take place order)) twice
   where

@@ -1,4 +1,4 @@
--- Tables as they are opened.
+-- Tables when they are opened.
 use Rattle.std.proofs.Common.{◌≡◌, ◌≤◌, ◌+◌, ◌*◌, ℕ, zero, suc, List, [], ◌∷◌, ◌++◌, length, length-append, replicate, take, Some, slice_get, true, refl, sym, ap, ◌∙◌, subst, append_assoc, append-nil, arith}
 use Rattle.std.specs.Prelude.{sum_by, slice_index_or}
 use Rattle.std.specs.List.{list_all}
@@ -25,11 +25,11 @@ pub list_rows-append : (xs ys : List MethodsOf) → list_rows (xs ++ ys) ≡ lis
 list_rows-append [] ys = refl
 list_rows-append (x ∷ xs) ys = ap (λ rows. rows_at x.class x.methods ++ rows) (list_rows-append xs ys) ∙ sym (append_assoc (rows_at x.class x.methods) (list_rows xs) (list_rows ys))
 
--- one list more
+-- one more list
 pub list_rows-next : (xs : List MethodsOf) (l : MethodsOf) → list_rows (xs ++ l ∷ []) ≡ list_rows xs ++ rows_at l.class l.methods
 list_rows-next xs l = list_rows-append xs (l ∷ []) ∙ ap (λ rows. list_rows xs ++ rows) (append-nil (rows_at l.class l.methods))
 
--- how many rows lists bring
+-- the number of rows that lists bring
 pub length-list_rows : (xs : List MethodsOf) → length (list_rows xs) ≡ sum_by size_of_list xs
 length-list_rows [] = refl
 length-list_rows (x ∷ xs) =
@@ -51,13 +51,13 @@ adds-both a b c xs ys first second = record {
   rest = second.rest ∙ ap {A = TablesView} (λ t. record t { lists = c.lists; rooms = c.rooms; row_count = c.row_count }) first.rest;
 }
 
--- the rows of one list more
+-- the rows of one more list
 pub adds-next : (a b c : TablesView) (lists : List MethodsOf) (p q : ℕ) (l : MethodsOf) → q ≡ p + 1 → slice_get lists p ≡ Some l → Adds a b (list_rows (take p lists)) → Adds b c (rows_at l.class l.methods) → Adds a c (list_rows (take q lists))
 adds-next a b c lists p q l e at before after =
     let more : list_rows (take q lists) ≡ list_rows (take p lists) ++ rows_at l.class l.methods = ap (λ n. list_rows (take n lists)) e ∙ ap list_rows (take-next lists p l at) ∙ list_rows-next (take p lists) l in
     subst (Adds a c) (sym more) (adds-both a b c (list_rows (take p lists)) (rows_at l.class l.methods) before after)
 
--- how many rows there are then
+-- the number of rows then
 pub adds-count : (a b : TablesView) (lists : List MethodsOf) → a.row_count ≡ 0 → Adds a b (list_rows lists) → b.row_count ≡ sum_by size_of_list lists
 adds-count a b lists none adds = let count = length-list_rows lists in omega (arith, none, adds.row_count, count)
 
@@ -74,7 +74,7 @@ kept-blank zero k = refl
 kept-blank (suc n) zero = refl
 kept-blank (suc n) (suc k) = kept-blank n k
 
--- opened tables stand where nothing was changed yet
+-- opened tables are at the log without changes
 pub stands-open : (o : OriginView) (a b : TablesView) → IsBlank o a → Adds a b (list_rows o.lists) → StandsAt b (empty o)
 unfolding table opening_table
 stands-open o a b blank adds = record {

@@ -13,7 +13,7 @@ use Rattle.msg_tables.specs.Chain.{presence_of, is_present, only_present, super_
 use Rattle.msg_tables.proofs.ChainLemmas.{Suffices}
 use Rattle.msg_tables.specs.Order.{IsOrder, present_count}
 
--- the first place of a class is no later than any
+-- the first place of a class is no later than any other
 pub index_in-le : (order : List ℕ) (i k : ℕ) → slice_get order i ≡ Some k → index_in order k ≤ i
 index_in-le [] i k e = cc
 index_in-le (x ∷ xs) zero k e = let same : x ≡ k = same_Some x k e in step (x == k) refl same
@@ -27,7 +27,7 @@ index_in-le (x ∷ xs) (suc i) k e = step (x == k) (index_in-le xs i k e)
     step true h = omega arith
     step false h = omega (arith, h)
 
--- and the class stands there
+-- and the class is there
 pub index_in-at : (order : List ℕ) (i k : ℕ) → slice_get order i ≡ Some k → slice_get order (index_in order k) ≡ Some k
 index_in-at [] i k e = cc
 index_in-at (x ∷ xs) zero k e = let same : x ≡ k = same_Some x k e in step (x == k) refl
@@ -52,7 +52,7 @@ present-inside [] k e = cc
 present-inside (x ∷ xs) zero e = omega arith
 present-inside (x ∷ xs) (suc k) e = omega (arith, present-inside xs k e)
 
--- what stands above a class reference that is present
+-- what is above a class reference that is present
 pub super-is : (supers : List (Option Presence)) (c d : ClassRef) → super_of supers c ≡ Some d
     → ((p : Presence) × (presence_of supers c.class ≡ Some p) × (p.superclass ≡ Some d.class) × (d.meta ≡ c.meta)) ⊎ ((d ≡ of_class c.class) × (c.meta ≡ true) × (is_present supers c.class ≡ true))
 super-is supers c d e = at (presence_of supers c.class) refl e
@@ -92,7 +92,7 @@ module _ (supers : List (Option Presence)) (order : List ℕ) (is : IsOrder supe
           is.present before.at d.class before.is
       at (inr (same, m, here)) = rw same here
 
-  -- so the steps grow fewer
+  -- so the remaining steps grow fewer
   pub super-fewer : (c d : ClassRef) → super_of supers c ≡ Some d → steps_of order d < steps_of order c
   super-fewer c d e = at (super-is supers c d e)
     where
@@ -104,7 +104,7 @@ module _ (supers : List (Option Presence)) (order : List ℕ) (is : IsOrder supe
       at (inl (p, here, up, same)) = rw same (earlier c.meta (index_in order d.class) (index_in order c.class) (place-fewer c.class d.class p here up))
       at (inr (same, meta, here)) = rw (same, meta) (omega arith)
 
-  -- as many steps as there are class numbers suffice
+  -- as many steps as there are class numbers are enough
   pub steps_suffice : (c : ClassRef) → is_present supers c.class ≡ true → steps_of order c ≤ length supers
   steps_suffice c here = at c.meta
     where
@@ -115,7 +115,7 @@ module _ (supers : List (Option Presence)) (order : List ℕ) (is : IsOrder supe
       at true = omega (arith, few)
       at false = omega (arith, few)
 
--- what stands above a class reference, where something does
+-- what is above a class reference, if anything is
 pub above-listed : (supers : List (Option Presence)) (order : List ℕ) → IsOrder supers order → (c : ClassRef) (o : Option ClassRef) → o ≡ super_of supers c → IfSome o (λ d. d.class < length supers)
 above-listed supers order is c None e = tt
 above-listed supers order is c (Some d) e = present-inside supers d.class (super-present supers order is c d (sym e))

@@ -49,7 +49,7 @@ list-category (d ∷ ks) (suc p) k m at =
     let place : 2 * suc p + cond m 1 0 ≡ suc (suc (2 * p + cond m 1 0)) = omega arith in
     further (category_lists ks) (a_list d.class false d.methods d.class_methods) (a_list d.class true d.methods d.class_methods) (a_list k.class m k.methods k.class_methods) (2 * suc p + cond m 1 0) (2 * p + cond m 1 0) place (list-category ks p k m at)
 
--- which stands after those of the listed classes
+-- it comes after those of the listed classes
 pub list-after : (j : ℕ) (cs : List ListedClass) (rest : List MethodsOf) (p q : ℕ) → p ≡ 2 * length cs + q → slice_get (listed_lists j cs ++ rest) p ≡ slice_get rest q
 list-after j [] rest p q e = let same : p ≡ q = omega (arith, e) in ap (slice_get rest) same
 list-after j (c ∷ cs) rest p q e =

@@ -2,14 +2,14 @@
 use Rattle.std.proofs.Common.{◌≡◌, ℕ, zero, suc, List, [], ◌∷◌, ◌++◌, Option, Some, None, Bool, true, false, cond, refl, sym, ap, ap₂, ◌∙◌, subst}
 use Rattle.std.specs.Prelude.{◌==◌, ◌&&◌, ◌||◌, is_some, is_none, unwrap_or}
 use Rattle.std.proofs.lemmas.Option.{same_Some}
-use Rattle.msg_tables.proofs.OrElseLemmas.{or_else_none, or_else-assoc}
+use Rattle.msg_rows.proofs.OrElseLemmas.{or_else_none, or_else-assoc}
 use Rattle.msg_names.proofs.TestLemmas.{equal, same_number}
 use Rattle.msg_names.specs.declared.value.ClassRef.{ClassRef}
 use Rattle.msg_names.specs.ClassRef.{same_class}
 use Rattle.msg_tables.specs.Chain.{chain_up, is_member}
 use Rattle.msg_tables.specs.declared.presence.Presence.{Presence}
-use Rattle.msg_tables.specs.Rows.{Row, is_at, own, or_else, holder_in, lookup_in}
-use Rattle.msg_tables.specs.RowList.{own_in, set_last}
+use Rattle.msg_tables.specs.Rows.{Row, is_at, own, holder_in, lookup_in}
+use Rattle.msg_rows.specs.RowList.{or_else, own_in, set_last}
 use Rattle.msg_tables.specs.After.{rows_at, set_own}
 use Rattle.msg_tables.specs.Stands.{pairs_at}
 use Rattle.msg_tables.proofs.HoldsLemmas.{pairs_at-rows_at, pairs_at-set_own, pairs_at-set_other}
@@ -148,7 +148,7 @@ pub lookup-own : (n : ℕ) (supers : List (Option Presence)) (rows : List Row) (
 lookup-own zero supers rows c s i e = rw e refl
 lookup-own (suc n) supers rows c s i e = rw e refl
 
--- a lookup's answer stands where its holder is
+-- a lookup's result is in the row of its holder
 pub lookup-holder : (rows : List Row) (cs : List ClassRef) (s : ℕ) (p : ClassRef) → holder_in rows cs s ≡ Some p → Some (lookup_in rows cs s) ≡ own rows p s
 lookup-holder rows [] s p e = cc
 lookup-holder rows (c ∷ cs) s p e = step (own rows c s) refl (lookup-holder rows cs s p) e
@@ -165,7 +165,7 @@ lookup-nowhere rows (c ∷ cs) s e = step (own rows c s) (lookup-nowhere rows cs
     step (Some i) rest e = cc
     step None rest e = rest e
 
--- where own rows stand at the same class references, so do the holders
+-- if own rows are at the same class references, so are the holders
 pub holder-same : (rows after : List Row) (cs : List ClassRef) (u : ℕ) → ((d : ClassRef) → is_some (own after d u) ≡ is_some (own rows d u)) → holder_in after cs u ≡ holder_in rows cs u
 holder-same rows after [] u e = refl
 holder-same rows after (c ∷ cs) u e = ap₂ (λ b o. cond b (Some c) o) (e c) (holder-same rows after cs u e)

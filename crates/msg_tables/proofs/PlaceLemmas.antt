@@ -1,4 +1,4 @@
--- Where an edit writes that was judged.
+-- Where an edit that was judged writes.
 use Rattle.std.proofs.Common.{◌≡◌, ◌++◌, ◌∷◌, [], ℕ, List, Option, Bor, Some, refl, sym, ap, ap₂}
 use Rattle.msg_names.specs.declared.value.ClassRef.{ClassRef}
 use Rattle.msg_names.specs.declared.value.Selector.{Selector}

@@ -1,4 +1,4 @@
--- One class more in an order in which those below a class come right after it.
+-- One more class in an order in which those below a class come right after it.
 use Rattle.std.proofs.Common.{◌≡◌, ◌≢◌, ◌<◌, ◌≤◌, ◌+◌, ◌++◌, ◌⊎◌, inl, inr, ℕ, zero, suc, List, [], ◌∷◌, length, Option, Some, None, Bool, true, false, cond, replicate, take, drop, slice_get, length-append, refl, sym, ap, ◌∙◌, subst, arith}
 use Rattle.std.specs.Prelude.{◌==◌, ◌||◌, is_some, slice_set, IfSome}
 use Rattle.std.specs.Option.{option_map_or}
@@ -29,7 +29,7 @@ abbrev pub placed_with : List ℕ → ℕ → Option ℕ → List ℕ
 placed_with ks k None = k ∷ ks
 placed_with ks k (Some d) = placed d k ks
 
--- a class that stands in no chain of the others
+-- a class that is in no chain of the others
 pub out-of-chains : (supers : List (Option Presence)) (order : List ℕ) → IsOrder supers order → (ks : List ℕ) (k : ℕ) → is_in k ks ≡ false
     → ((j e : ℕ) (p : Presence) → is_in j ks ≡ true → presence_of supers j ≡ Some p → p.superclass ≡ Some e → is_in e ks ≡ true)
     → (j : ℕ) → is_in j ks ≡ true → descends supers (of_class k) (of_class j) ≡ false
@@ -65,7 +65,7 @@ module _ (supers : List (Option Presence)) (order : List ℕ) (before : IsOrder 
   other : (j : ℕ) → is_in j ks ≡ true → j ≢ k
   other j e = apart-in j k ks e fresh
 
-  -- where a class descends from
+  -- what a class descends from
   from : (o : Option ℕ) → presence_of supers k ≡ Some (record { superclass = o }) → (x : ℕ) → x ≢ k → descends supers (of_class x) (of_class k) ≡ option_map_or (λ d. descends supers (of_class x) (of_class d)) o false
   from o here x ne =
       descends-step supers order (of_class x) (of_class k) before (ap is_some here)
@@ -176,7 +176,7 @@ module _ (supers : List (Option Presence)) (order : List ℕ) (before : IsOrder 
   preorder-with None here inside above' = preorder-root here inside
   preorder-with (Some d) here inside above' = preorder-below d here inside above'
 
--- which stand there afterwards, and how many
+-- the classes that are there afterwards, and their number
 pub placed_with-in : (ks : List ℕ) (k : ℕ) (o : Option ℕ) → IfSome o (λ d. is_in d ks ≡ true) → (j : ℕ) → is_in j (placed_with ks k o) ≡ ((k == j) || is_in j ks)
 placed_with-in ks k None up j = refl
 placed_with-in ks k (Some d) up j = placed-in d k j ks ∙ ap (λ b. is_in j ks || cond b (k == j) false) up ∙ swap (is_in j ks) (k == j)
@@ -317,7 +317,7 @@ module _ (supers : List (Option Presence)) (order : List ℕ) (before : IsOrder 
   up-placed None e = tt
   up-placed (Some d) e = are.present d ∙ e
 
-  -- the superclass stands there
+  -- the superclass is there
   pub made-ready : IfSome o (λ d. (d < length depths) × (d < length nexts) × (depth_at depths d < length supers))
   made-ready = at o up'
     where

@@ -18,14 +18,14 @@ first-in k ks = or_left (k == k) (is_in k ks) (equal k)
 pub later-in : (j k : ℕ) (ks : List ℕ) → is_in j ks ≡ true → is_in j (k ∷ ks) ≡ true
 later-in j k ks e = or_right (k == j) (is_in j ks) e
 
--- one number isn't another where a list has just one of them
+-- two numbers differ if a list has just one of them
 pub apart-in : (j k : ℕ) (ks : List ℕ) → is_in j ks ≡ true → is_in k ks ≡ false → j ≢ k
 apart-in j k ks e f same = true≢false (sym e ∙ ap (λ n. is_in n ks) same ∙ f)
 
 pub unlike : (j k : ℕ) → j ≢ k → (j == k) ≡ false
 unlike j k ne = false_from_ne_true (j == k) (λ e. ne (same_number j k e))
 
--- what stands at a place
+-- what is at a place
 pub element-at : (xs : List ℕ) (i : ℕ) → i < length xs → slice_get xs i ≡ Some (slice_index_or xs i 0)
 element-at [] i inside = absurd (omega (arith, inside))
 element-at (x ∷ xs) zero inside = refl
@@ -114,7 +114,7 @@ pub first-same : (f g : ℕ → ℕ) (ks : List ℕ) → ((k : ℕ) → is_in k 
 first-same f g [] same = refl
 first-same f g (k ∷ ks) same = same k (first-in k ks)
 
--- a class that is placed right after another, and is one deeper, is among the deeper ones where the
+-- a class that is placed right after another, and is one deeper, is among the deeper ones if the
 -- other is
 pub deeper-placed : (f : ℕ → ℕ) (s n d j : ℕ) (ks : List ℕ) → f n ≡ suc (f s) → is_in j (deeper f d (placed s n ks)) ≡ (is_in j (deeper f d ks) || cond (is_in s (deeper f d ks)) (n == j) false)
 deeper-placed f s n d j [] one = refl
@@ -139,9 +139,9 @@ deeper-placed f s n d j (k ∷ ks) one = at (k == s) refl (deeper-placed f s n d
     at true e rest = itself (nat_lt d (f k)) refl e
     at false e rest = other (nat_lt d (f k)) e rest
 
--- ---- one class more
+-- ---- one more class
 
--- what isn't below a class that stands later
+-- what isn't below a class that comes later
 not-below : (supers : List (Option Presence)) (depth : ℕ → ℕ) (all : List ℕ) (s : ℕ) → is_in s all ≡ true
     → (ks : List ℕ) → AreFollowed supers depth all ks → is_in s ks ≡ false → (k : ℕ) → is_in k ks ≡ true → descends supers (of_class k) (of_class s) ≡ false
 not-below supers depth all s old [] is out k e = cc
@@ -167,7 +167,7 @@ module _ (supers : List (Option Presence)) (depth depth' : ℕ → ℕ) (all all
   same-deeper : (k : ℕ) (ks : List ℕ) → is_in k all ≡ true → ((j : ℕ) → is_in j ks ≡ true → is_in j all ≡ true) → deeper depth' (depth' k) ks ≡ deeper depth (depth k) ks
   same-deeper k ks old sub = ap (λ d. deeper depth' d ks) (same k old) ∙ deeper-same depth' depth (depth k) ks (λ j e. same j (sub j e))
 
-  -- those that the class is not below are followed as they were
+  -- those that the class is not below keep what comes after them
   followed-grown : (k : ℕ) (ks : List ℕ) → IsFollowed supers depth all k ks → ((j : ℕ) → is_in j (k ∷ ks) ≡ true → is_in j all ≡ true) → descends supers (of_class k) (of_class n) ≡ false → IsFollowed supers depth' all' k ks
   followed-grown k ks is sub none = record {
     below = λ j e. at j (grown j e);
@@ -244,7 +244,7 @@ module _ (supers : List (Option Presence)) (depth depth' : ℕ → ℕ) (all all
             let there : is_in n (k ∷ n ∷ deeper depth' (depth' k) ks) ≡ true = later-in n k (n ∷ deeper depth' (depth' k) ks) (first-in n (deeper depth' (depth' k) ks)) in
             subst (λ z. is_in z (k ∷ deeper depth' (depth' k) (n ∷ ks)) ≡ descends supers (of_class k) (of_class z)) (sym new) (rw test (there ∙ sym below))
 
-    -- one that stands before it
+    -- a class that comes before it
     followed-before : (k : ℕ) (ks : List ℕ) → (k == s) ≡ false → IsFollowed supers depth all k ks → ((j : ℕ) → is_in j (k ∷ ks) ≡ true → is_in j all ≡ true) → IsFollowed supers depth' all' k (placed s n ks)
     followed-before k ks other is sub = record {
       below = λ j e. at j (grown j e);
@@ -324,7 +324,7 @@ module _ (depth depth' : ℕ → ℕ) (next next' : ℕ → Option ℕ) where
     linked-same ks (λ j e. same j (later-in j k ks e)) (λ j e. kept j (later-in j k ks e)) is.1,
   )
 
-  -- where one more class goes right after another
+  -- if one more class goes right after another
   pub linked-placed : (supers : List (Option Presence)) (all : List ℕ) (s n : ℕ) (ks : List ℕ) → AreFollowed supers depth all ks
       → ((j : ℕ) → is_in j ks ≡ true → depth' j ≡ depth j) → ((j : ℕ) → is_in j ks ≡ true → j ≢ s → next' j ≡ next j)
       → next' s ≡ Some n → next' n ≡ next s → (depth' n == 0) ≡ false → AreLinked depth next ks → AreLinked depth' next' (placed s n ks)

@@ -72,7 +72,7 @@ may_be_made h k d accepted =
     there None e = tt
     there (Some e') e = not_false (is_present (table h).supers e') e
 
--- one that may be disposed of has no class below it
+-- a class that may be disposed of has no class below it
 pub record Disposed (h : Log) (k : ℕ) : Type 0 where
   pub here : is_present (table h).supers k ≡ true
   pub made : length h.origin.superclasses ≤ k
@@ -135,7 +135,7 @@ pub ordered : (h : Log) → IsSound h.origin → IsLog h → Ordered (table h).s
 unfolding IsLog
 ordered h sound accepted = ordered-on (empty h.origin) h.changes (ordered-opened h.origin sound) accepted
 
--- ---- a class that is made leaves the others as they are
+-- ---- a class that is made leaves the others unchanged
 
 module _ (supers : List (Option Presence)) (order : List ℕ) (is : IsOrder supers order) (k : ℕ) (p : Presence) (absent : is_present supers k ≡ false) where
   apart : (j : ℕ) → is_present supers j ≡ true → j ≢ k
@@ -176,7 +176,7 @@ lookup-made h k d c s sound log accepted ne =
     let may = may_be_made h k d accepted in
     lookup-after h (AddClass k d) c s ∙ ap (λ cs. lookup_in (table h).rows cs s) (chain_of-stays (table h).supers o.order o.is k (record { superclass = d }) may.absent c ne)
 
--- ---- a class that is disposed of leaves the others as they are
+-- ---- a class that is disposed of leaves the others unchanged
 
 module _ (supers : List (Option Presence)) (k : ℕ) (leaf : has_subclass supers k ≡ false) where
   gone-super : (c : ClassRef) → c.class ≢ k → super_of (slice_set supers k None) c ≡ super_of supers c
@@ -243,7 +243,7 @@ lookup-disposed h k c s d ne =
         step false e = refl
         step true e = absurd (ne (same_number p.class k e))
 
--- what a change doesn't affect finds what it found
+-- what a change doesn't affect finds what it found before
 pub lookup-kept : (h : Log) (x : Change) (c : ClassRef) (s : ℕ) → IsSound h.origin → IsLog h → refusal h x ≡ None → is_affected h x c ≡ false → lookup (and_then h x) c s ≡ lookup h c s
 unfolding is_affected
 lookup-kept h (Add d u i) c s sound log accepted e = lookup-unaffected h (Add d u i) c s refl (λ d. refl) e
@@ -287,7 +287,7 @@ module _ (h : Log) where
           let up : above (of_class k) p.superclass ≡ None = sym (ap (λ x. option_map_or (λ (q : Presence). above (of_class k) q.superclass) x None) here) ∙ none in
           ap (λ x. option_map_or (λ (q : Presence). above (of_meta k) q.superclass) x None) here ∙ root p.superclass up
 
-  -- up to a class reference above which nothing stands
+  -- up to a class reference that has nothing above it
   pub ends : (c : ClassRef) → IsSound h.origin → IsLog h → no_class h c ≡ false → EndsAtRoot h c
   unfolding superclass chain_at chain_of
   ends c sound log listed =
@@ -349,7 +349,7 @@ superclass-stays p h c begins log listed =
     ap (λ (q : Log). super_of (table q).supers c) same
     ∙ ap (λ o. option_map_or (λ (q : Presence). above c q.superclass) o None) (presence-on h more c.class all listed (listed-there h c.class (log-before p h begins log) listed))
 
--- ---- the classes at which an accepted change seeks its methods
+-- ---- the classes at which an accepted change looks for its methods
 
 there_inside : (h : Log) (c : ClassRef) → no_class h c ≡ false → c.class < class_total h.origin
 there_inside h c e = let n = length-supers h in let inside = present-inside (table h).supers c.class (is-there h c e) in omega (arith, n, inside)

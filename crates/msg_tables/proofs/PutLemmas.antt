@@ -1,10 +1,10 @@
--- Lists of rows of which one was written.
+-- Lists of rows one of which was written.
 use Rattle.std.proofs.Common.{◌≡◌, ◌+◌, ℕ, List, [], ◌++◌, length, true, sym, ap, ◌∙◌}
 use Rattle.std.proofs.Math.ListN.{length-set}
 use Rattle.std.proofs.lemmas.List.{length-map}
 use Rattle.std.specs.Prelude.{slice_set, slice_index_or}
 use Rattle.std.specs.List.{list_all}
-use Rattle.msg_tables.specs.RowList.{RowList, rows_of}
+use Rattle.msg_rows.specs.RowList.{RowList, rows_of}
 use Rattle.msg_tables.specs.Origin.{are_listed}
 use Rattle.msg_tables.proofs.ListedLemmas.{listed-append, listed-put, listed_at}
 

@@ -32,7 +32,7 @@ use Rattle.msg_tables.proofs.SeveralLemmas.{table-and_all}
 use Rattle.msg_tables.proofs.WayBackLemmas.{present-is, set-twice}
 use Rattle.msg_tables.proofs.WayBackAllLemmas.{back-all, kept-at, numbered-parts}
 
--- ---- seen from the tables
+-- ---- by the tables
 
 refs : ClassTable → Change → List ClassRef
 refs t (Add c s i) = c ∷ []
@@ -44,7 +44,7 @@ refs t (AddClass k d) = []
 refs t (Remove c s) = c ∷ []
 refs t (DisposeClass k) = []
 
--- the class reference is one of these places, or below one
+-- the class reference is at or below one of these places
 abbrev below : ClassTable → ClassRef → List ClassRef → Bool
 below t c places = list_any (λ place. is_member place (chain t c)) places
 
@@ -152,7 +152,7 @@ covering-supers t p s i = step p.meta
     step true = refl
     step false = refl
 
--- away from the class of the rows that come again
+-- outside the class of the rows that are added again
 covering_all-away : (t : ClassTable) (p : ClassRef) (rs : List Row) (c : ClassRef) → is_member p (chain t c) ≡ false → affected_all t (covering_all p rs) c ≡ false
 covering_all-away t p [] c away = refl
 covering_all-away t p (r ∷ rs) c away = step (same_class r.class p) refl (λ u e. covering_all-away u p rs c e)

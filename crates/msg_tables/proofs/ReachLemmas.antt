@@ -1,4 +1,4 @@
--- What is marked of a list of changes that was made.
+-- What is marked for a list of changes that was made.
 use Rattle.std.proofs.Common.{◌≡◌, ℕ, ◌<◌, ◌+◌, List, [], ◌∷◌, ◌++◌, Bool, true, false, length, refl, slice_index_or, sym, ap, ap₂, subst, take, ◌∙◌}
 use Rattle.std.proofs.lemmas.List.{take_more}
 use Rattle.std.specs.Prelude.{◌||◌, ◌==◌, IfErr, OnOk, Result, Ok, Err}
@@ -32,7 +32,7 @@ or-swap false true true q = refl
 or-swap false true false q = refl
 or-swap false false p q = refl
 
--- truths that follow from one another are one
+-- truths that follow from one another are equal
 same-truth : (a b : Bool) → (a ≡ true → b ≡ true) → (b ≡ true → a ≡ true) → a ≡ b
 same-truth true true f g = refl
 same-truth true false f g = sym (f refl)
@@ -52,7 +52,7 @@ either-way (Err e) ok err f g = g e err
 
 -- ---- entry by entry
 
--- one entry more
+-- one more entry
 pub marks-next : (t : TablesView) (es : List Entry) (i : ℕ) (e : Entry) (first mid last : List Bool) → i < length es → e ≡ slice_index_or es i e → MarksTold t (take i es) first mid → MarksTold t (e ∷ []) mid last → MarksTold t (take (i + 1) es) first last
 marks-next t es i e first mid last inside is so-far one h stands c lt =
     one h stands c lt
@@ -63,7 +63,7 @@ marks-next t es i e first mid last inside is so-far one h stands c lt =
 
 -- ---- a list
 
--- what the journal of a list tells of is what the list affects
+-- what the journal of a list describes is what the list affects
 pub reaches-told : (xs : List Change) (journal : List Entry) (old new : TablesView) (first last : List Bool) (order : List ℕ) → IsOrder old.supers order → IsMade xs journal old new → MarksTold new journal first last → ReachesAll xs old first last
 reaches-told xs journal old new first last order is made marks h stands c lt =
     let (all, after) = made.stands h stands in

@@ -7,7 +7,7 @@ use Rattle.msg_names.proofs.ClassRefLemmas.{slot_of-same, same_class-is, same_cl
 use Rattle.msg_names.specs.declared.value.ClassRef.{ClassRef}
 use Rattle.msg_names.specs.ClassRef.{same_class, slot_of}
 use Rattle.msg_tables.specs.After.{rows_at, set_own}
-use Rattle.msg_tables.specs.RowList.{HaveGrown, own_in, set_last}
+use Rattle.msg_rows.specs.RowList.{HaveGrown, own_in, set_last}
 use Rattle.msg_tables.specs.Rows.{Row}
 use Rattle.msg_tables.specs.Stands.{pairs_at}
 use Rattle.msg_tables.specs.View.{TablesView, kept}
@@ -19,7 +19,7 @@ use Rattle.msg_tables.specs.Journal.{IsImpOf, IsJournalOf, lists_rewritten}
 use Rattle.msg_tables.proofs.HoldsLemmas.{kept-other, pairs_at-rows_at, pairs_at-set_own}
 use Rattle.msg_tables.proofs.JournalLemmas.{set-twice, set-as_was, set_last-back}
 use Rattle.msg_tables.proofs.RowSetLemmas.{set_own-twice, set_own-apart}
-use Rattle.msg_tables.proofs.RoomLemmas.{grown-on}
+use Rattle.msg_rows.proofs.RoomLemmas.{grown-on}
 
 -- ---- one list
 

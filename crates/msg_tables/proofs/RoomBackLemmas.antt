@@ -1,4 +1,4 @@
--- A way back holds no more rows at any time than its list did.
+-- A way back never has more rows than its list had at some time.
 use Rattle.std.proofs.Common.{◌≡◌, ◌≤◌, ◌+◌, ℕ, List, [], ◌∷◌, ◌++◌, Option, Some, None, Bool, true, false, cond, reverse, refl, sym, ap, ◌∙◌, subst, arith}
 use Rattle.std.specs.Prelude.{◌==◌, ◌&&◌, not, is_some}
 use Rattle.std.specs.List.{list_all}
@@ -28,7 +28,7 @@ use Rattle.msg_tables.proofs.SeveralLemmas.{table-and_all}
 use Rattle.msg_tables.proofs.WayBackLemmas.{back}
 use Rattle.msg_tables.proofs.WayBackAllLemmas.{back-all, kept-at, numbered-parts}
 
--- ---- changes by which rows only come, or only leave
+-- ---- changes that only add rows, or only remove rows
 
 rises : Change → Bool
 rises (Replace c s i) = true

@@ -1,4 +1,4 @@
--- What tables that stand at a log know of it.
+-- What tables at a log know of it.
 use Rattle.std.proofs.Common.{◌≡◌, ℕ, Bool, length, sym, ap, ap₂, subst, ◌∙◌}
 use Rattle.std.specs.Prelude.{◌||◌, nat_lt}
 use Rattle.msg_tables.specs.Chain.{has_subclass}
@@ -29,7 +29,7 @@ module _ (t : TablesView) (h : Log) (stands : StandsAt t h) where
   unfolding is_in_use
   in-use k b e = sym e ∙ ap₂ (λ n ss. nat_lt k n || has_subclass ss k) stands.listed stands.supers
 
--- tables that are the same but for room stand where they stood
+-- tables that are the same except for room are at the same log
 pub stands-kept : (old new : TablesView) (h : Log) → IsKept old new → StandsAt old h → StandsAt new h
 stands-kept old new h kept stands = record {
   log = stands.log;

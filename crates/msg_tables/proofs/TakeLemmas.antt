@@ -21,6 +21,6 @@ pub whole : {X : Type 0} (xs ys : List X) (n : ℕ) → length xs ≡ length ys 
 whole xs ys n same count =
     ap (λ k. take n (xs ++ drop k ys)) same ∙ ap (λ zs. take n (xs ++ zs)) (drop-length ys) ∙ ap (take n) (append-nil xs) ∙ take_all n xs (omega (arith, same, count))
 
--- what holds of all holds of the one at a place
+-- what holds for all holds for the one at a place
 pub All-at : {X : Type 0} (P : X → Type 0) (xs : List X) (k : ℕ) (x : X) → All P xs → slice_get xs k ≡ Some x → P x
 All-at P xs k x all at = subst P (get_or_from_slice_get xs k x x at) (all k x (slice_get_within xs k x at))

@@ -1,4 +1,4 @@
--- What a list affects is just what its journal tells of, once all is made.
+-- After all changes of a list are made, it affects exactly what its journal describes.
 use Rattle.std.proofs.Common.{◌≡◌, ℕ, zero, suc, List, [], ◌∷◌, ◌++◌, Option, Some, None, Bool, true, false, refl, sym, ap, ap₂, ◌∙◌, subst, length}
 use Rattle.std.specs.Prelude.{◌||◌, ◌==◌, if◌then◌else◌, is_some, slice_set}
 use Rattle.std.specs.List.{list_any}
@@ -26,7 +26,7 @@ use Rattle.msg_tables.proofs.ClassLemmas.{gone-same}
 use Rattle.msg_tables.proofs.OrderLemmas.{present-inside, super-present}
 use Rattle.msg_tables.proofs.PresenceLemmas.{Ordered, ordered-and_then, supers-and_then, may_be_made, disposed}
 
--- ---- who stands on a chain is present
+-- ---- what is on a chain is present
 
 module _ (supers : List (Option Presence)) (order : List ℕ) (is : IsOrder supers order) (p : ClassRef) where
   member-up : (n : ℕ) (c : ClassRef) → is_present supers c.class ≡ true → is_member p (chain_up n supers c) ≡ true → is_present supers p.class ≡ true
@@ -52,7 +52,7 @@ module _ (supers : List (Option Presence)) (order : List ℕ) (is : IsOrder supe
       step true here there = member-up (length supers) c here there
       step false here there = cc
 
--- so its class is neither made nor disposed of by changes, where that of the chain isn't
+-- so changes neither make nor dispose of its class, if they don't for the class of the chain
 module _ (c p : ClassRef) where
   unmade-by : (h : Log) (x : Change) → Ordered (table h).supers → refusal h x ≡ None → is_of_one (made_by x) c ≡ false → is_member p (chain_at h c) ≡ true → is_of_one (made_by x) p ≡ false
   unfolding chain_at
@@ -89,7 +89,7 @@ module _ (c p : ClassRef) where
       let later = unmade-all (and_then h x) xs (ordered-and_then h x o all.0) all.1 parts.1 (ap (is_member p) (chain-and_then h x c o all.0 parts.0) ∙ e) in
       list_any-append (λ k. p.class == k) (made_by x) (made_by_all xs) ∙ ap₂ (λ a b. a || b) (unmade-by h x o all.0 parts.0 e) later
 
--- ---- what a journal tells of is affected
+-- ---- what a journal describes is affected
 
 of-one : (x : Change) (c : ClassRef) → is_of_one (made_by x) c ≡ true → is_of_made x c ≡ true
 of-one (Add d s i) c e = cc

@@ -1,4 +1,4 @@
--- What takes a journal back is what takes its list back.
+-- The changes that take a journal back are those that take its list back.
 use Rattle.std.proofs.Common.{◌≡◌, ◌<◌, ◌+◌, ℕ, zero, suc, List, [], ◌∷◌, ◌++◌, append_assoc, append-nil, length, Option, Some, None, Bool, true, false, cond, refl, sym, ap, ap₂, ◌∙◌, arith}
 use Rattle.std.specs.Prelude.{is_some, reverse, IsSome}
 use Rattle.std.specs.Option.{option_map_or}
@@ -21,9 +21,9 @@ use Rattle.msg_tables.specs.Log.{Log, table, table_after_all, holder, lookup}
 use Rattle.msg_tables.specs.After.{of_class, of_meta, table_after}
 use Rattle.msg_tables.specs.Chain.{presence_of}
 use Rattle.msg_tables.specs.Journal.{added_all, cover_all, undo_entry, undo_journal, undo_own, edit_undo, IsImpOf}
-use Rattle.msg_tables.specs.Methods.{method_numbers}
+use Rattle.msg_rows.specs.Methods.{method_numbers}
 use Rattle.msg_tables.specs.Refusal.{has_own}
-use Rattle.msg_tables.specs.RowList.{own_in}
+use Rattle.msg_rows.specs.RowList.{own_in}
 use Rattle.msg_tables.specs.Rows.{ClassTable, Row, own}
 use Rattle.msg_tables.specs.Stands.{StandsAt, pairs_at}
 use Rattle.msg_tables.specs.Undo.{covering, covering_all, removing, undo, undo_all}
@@ -64,7 +64,7 @@ selector-same s = step s.number s.positive
 
 -- ---- of an edit that was judged
 
--- rows of a class reference come again
+-- rows of a class reference are added again
 pub covering-pairs : (c : ClassRef) (rows : List Row) → cover_all c (pairs_at c rows) ≡ covering_all c rows
 covering-pairs c [] = refl
 covering-pairs c (r ∷ rs) = step (same_class r.class c) (covering-pairs c rs)

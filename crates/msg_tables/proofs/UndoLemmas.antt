@@ -1,4 +1,4 @@
--- What takes a change back.
+-- The changes that take a change back.
 use Rattle.std.proofs.Common.{◌≡◌, ℕ, List, [], ◌∷◌, ◌++◌, Option, Some, None, Bool, true, false, cond, refl, sym, ap, ap₂, ◌∙◌, subst, append-nil}
 use Rattle.std.specs.Prelude.{◌==◌, ◌&&◌, is_some, option_map}
 use Rattle.std.proofs.lemmas.Option.{same_Some}
@@ -53,7 +53,7 @@ pub after_all-append : (t : ClassTable) (xs ys : List Change) → table_after_al
 after_all-append t [] ys = refl
 after_all-append t (x ∷ xs) ys = after_all-append (table_after t x) xs ys
 
--- an own row stands at the holder, if there is one
+-- an own row is at the holder, if there is one
 abbrev Stands : List Row → Option ClassRef → ℕ → Type 0
 Stands rows None n = Unit {0}
 Stands rows (Some p) n = is_some (own rows p n) ≡ true

@@ -26,7 +26,7 @@ record Tail (supers : List (Option Presence)) (depth : ℕ → ℕ) (next : ℕ 
   pub once : AreOnce (k ∷ rest)
   pub shorter : length rest < length ks
 
--- each class of such an order stands there once
+-- each class of such an order is there once
 followed-once : (supers : List (Option Presence)) (depth : ℕ → ℕ) (all ks : List ℕ) → AreFollowed supers depth all ks → AreOnce ks
 followed-once supers depth all [] order = tt
 followed-once supers depth all (k ∷ ks) order = (order.0.once, followed-once supers depth all ks order.1)
@@ -111,7 +111,7 @@ in-push j k (x ∷ ks) = ap (λ b. (x == j) || b) (in-push j k ks) ∙ assoc (x 
     assoc true b c = refl
     assoc false b c = refl
 
--- what stands in a list once stands once in what it begins with
+-- what is in a list once is in its beginning once
 once-left : (xs ys : List ℕ) → AreOnce (xs ++ ys) → AreOnce xs
 once-left [] ys e = tt
 once-left (x ∷ xs) ys e = ((or_false_left (is_in x xs) (is_in x ys) (sym (list_any-append (λ z. z == x) xs ys) ∙ e.0)), once-left xs ys e.1)
@@ -133,7 +133,7 @@ begins depth c (x ∷ ks) e = at (depth x == 0) e
     at true e = cc
     at false e = record { rest = ks; is = ap (λ z. z ∷ ks) (sym (same_Some c x e)) }
 
--- nothing comes next where nothing is left, or a root class
+-- nothing comes next if nothing is left, or a root class is
 root-first : (depth : ℕ → ℕ) (ks : List ℕ) → None ≡ next_in depth ks → first_depth depth ks ≡ 0
 root-first depth [] e = refl
 root-first depth (x ∷ ks) e = at (depth x == 0) refl e
@@ -182,7 +182,7 @@ module _ (supers : List (Option Presence)) (depths : List ℕ) (nexts : List (Op
           ∙ sym (ap (λ b. is_in j classes || is_in j (cond b (c ∷ deeper (depth_at depths) (depth_at depths k) rest) [])) test)
           ∙ e
 
-  -- where what comes next isn't deeper, the walk is at its end
+  -- if what comes next isn't deeper, the walk is at its end
   shallow : (at : Option ℕ) (walks : Walks supers depths nexts k classes at) → first_depth (depth_at depths) walks.rest ≤ depth_at depths k → (j : ℕ) → is_in j classes ≡ descends supers (of_class k) (of_class j)
   shallow at walks low j =
       sym (or-false (is_in j classes))

@@ -1,4 +1,4 @@
--- Memory that is wanting, and room that is held.
+-- Memory that is lacking, and room that is kept.
 use Rattle.std.proofs.Common.{◌≡◌, ◌<◌, ◌≤◌, ◌+◌, ◌⊎◌, inl, inr, ℕ, zero, suc, List, [], ◌∷◌, ◌++◌, take, length, length-append, map, Option, Some, None, Bool, true, false, cond, refl, sym, ap, ◌∙◌, subst, slice_index_or, arith}
 use Rattle.std.specs.Prelude.{is_some, reverse, IsSome}
 use Rattle.std.specs.Option.{option_map_or}
@@ -15,7 +15,7 @@ use Rattle.msg_tables.specs.Journal.{edit_undo, entry_count, cover_all, undo_own
 use Rattle.msg_tables.specs.ListLaws.{HoldsAtMost}
 use Rattle.msg_tables.specs.Log.{Log, and_then, table, table_after_all}
 use Rattle.msg_tables.specs.Making.{AreHeld, WantsMemory, WantsMore}
-use Rattle.msg_tables.specs.RowList.{HaveGrown, own_in}
+use Rattle.msg_rows.specs.RowList.{HaveGrown, own_in}
 use Rattle.msg_tables.specs.Rows.{Row}
 use Rattle.msg_tables.specs.Several.{and_all}
 use Rattle.msg_tables.specs.Stands.{StandsAt, pairs_at}
@@ -42,7 +42,7 @@ count-pairs c (r ∷ rs) = step (same_class r.class c) (count-pairs c rs)
     step true e = omega (arith, e)
     step false e = omega (arith, e)
 
--- there is room for those that stand there
+-- there is room for the rows that are there
 pub count-within : (t : TablesView) (h : Log) (c : ClassRef) → StandsAt t h → IsWithinRoom t → count_at (λ d. same_class d c) (table h).rows ≤ room_of t c
 count-within t h c stands within = let a = count-pairs c (table h).rows in let b = ap length (stands.rows.at c) in let d = within c in omega (arith, a, b, d)
 
@@ -53,7 +53,7 @@ within-kept old new same grown within c =
     let was = within c in
     omega (arith, lists, more, was)
 
--- ---- how many entries an edit has
+-- ---- the number of entries of an edit
 
 one-there : {A : Type 0} (o : Option ℕ) (f : ℕ → A) → is_some o ≡ true → length (option_map_or (λ i. f i ∷ []) o []) ≡ 1
 one-there None f e = cc
@@ -93,7 +93,7 @@ module _ (old : TablesView) (h : Log) (stands : StandsAt old h) where
   abbrev CountAfter : List Row → ClassRef → ℕ
   CountAfter rows c = count_at (λ d. same_class d c) rows
 
-  -- so many rows more of a class reference are too many
+  -- this number of further rows of a class reference is too much
   too-many : (c : ClassRef) (n : ℕ) (rows : List Row) → length (pairs_at c rows) ≡ length (pairs_at c (table h).rows) + n → LacksRoom old c n → room_of old c < count_at (λ d. same_class d c) rows
   too-many c n rows more lacks = let a = count-pairs c rows in let b = ap length (stands.rows.at c) in omega (arith, a, b, more, lacks)
 
@@ -170,7 +170,7 @@ held-next xs i x old between new inside is held grown within after h stands c =
     subst (HoldsAtMost (room_of new c) c h) (sym (take_more xs i x inside ∙ ap (λ y. take i xs ++ y ∷ []) (sym is)))
     (held-snoc (room_of between c) (room_of new c) c h (take i xs) x (grown.at (slot_of c)) (held h stands c) (count-within new (and_then (and_all h (take i xs)) x) c (after h stands) within))
 
--- where memory is wanting for one change more
+-- if memory is lacking for one more change
 pub wants-next : (xs : List Change) (i : ℕ) (x : Change) (h : Log) (old between : TablesView) (start room count : ℕ) → i < length xs → x ≡ slice_index_or xs i x → HaveGrown old.rooms between.rooms → start ≤ room → count ≡ length (undo_all (table h) (take i xs))
     → (room < count + length (undo (table (and_all h (take i xs))) x)) ⊎ ((c : ClassRef) × (room_of between c < count_at (λ d. same_class d c) (table (and_then (and_all h (take i xs)) x)).rows))
     → (start < length (undo_all (table h) (take (i + 1) xs))) ⊎ ((c : ClassRef) × (HoldsAtMost (room_of old c) c h (take (i + 1) xs) → ⊥))

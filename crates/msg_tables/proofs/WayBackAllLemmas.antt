@@ -1,4 +1,4 @@
--- What takes a list of changes back.
+-- The changes that take a list of changes back.
 use Rattle.std.proofs.Common.{◌≡◌, ◌<◌, ◌≤◌, ◌+◌, ℕ, zero, suc, List, [], ◌∷◌, ◌++◌, length, length-append, Option, Some, None, Bool, true, refl, sym, ap, ◌∙◌, subst, arith}
 use Rattle.std.specs.Prelude.{◌&&◌, All, is_some, sum_by}
 use Rattle.std.specs.List.{list_all}

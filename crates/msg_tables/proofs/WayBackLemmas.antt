@@ -1,5 +1,5 @@
--- What takes one change back leaves the tables as they were, but for the order of rows that no
--- lookup compares.
+-- The changes that take one change back leave the tables as they were, except for the order of rows
+-- that no lookup compares.
 use Rattle.std.proofs.Common.{◌≡◌, ◌≢◌, ◌<◌, ◌≤◌, ◌+◌, ℕ, zero, suc, List, [], ◌∷◌, ◌++◌, length, Option, Some, None, Bool, true, false, cond, map, reverse, refl, sym, ap, ap₂, ◌∙◌, subst, append-nil, append_assoc, arith}
 use Rattle.std.specs.Prelude.{◌==◌, ◌&&◌, not, nat_lt, is_some, is_none, slice_set}
 use Rattle.std.specs.List.{list_all}
@@ -20,7 +20,8 @@ use Rattle.msg_tables.specs.After.{of_class, of_meta, row, rows_at, set_own, wit
 use Rattle.msg_tables.specs.Chain.{presence_of, is_present}
 use Rattle.msg_tables.specs.Log.{table_after_all}
 use Rattle.msg_tables.specs.Origin.{OriginView}
-use Rattle.msg_tables.specs.Rows.{Row, ClassTable, is_at, own, or_else, holder_at, lookup_at}
+use Rattle.msg_rows.specs.RowList.{or_else}
+use Rattle.msg_tables.specs.Rows.{Row, ClassTable, is_at, own, holder_at, lookup_at}
 use Rattle.msg_tables.specs.Undo.{AreAlike, are_numbered, covering, covering_all, count_at, imps_of, is_numbered, old_at, removing, undo}
 use Rattle.msg_tables.proofs.AgainstLemmas.{May, against}
 use Rattle.msg_tables.proofs.AlikeLemmas.{SameRows, alike-is, rows-alike}
@@ -35,7 +36,7 @@ with_rows t rows = record { supers = t.supers; rows = rows }
 
 -- ---- a row that was added
 
--- the last row leaves
+-- the last row is removed
 pub without-last : (c : ClassRef) (s : ℕ) (rows : List Row) (r : Row) → is_at c s r ≡ true → without_own c s (rows ++ r ∷ []) ≡ rows
 without-last c s [] r at = rw at refl
 without-last c s (x ∷ xs) r at =
@@ -63,7 +64,7 @@ pub rows_at-append : (c : ClassRef) (xs ys : List (ℕ × ℕ)) → rows_at c (x
 rows_at-append c [] ys = refl
 rows_at-append c (x ∷ xs) ys = ap (λ rows. record { class = c; sel = x.0; imp = x.1 } ∷ rows) (rows_at-append c xs ys)
 
--- the first entry stands last
+-- the first entry is last
 pub attached-last : (rows : List Row) (c : ClassRef) (m : ℕ × ℕ) (ms : List (ℕ × ℕ)) → rows ++ rows_at c (reverse (m ∷ ms)) ≡ (rows ++ rows_at c (reverse ms)) ++ record { class = c; sel = m.0; imp = m.1 } ∷ []
 attached-last rows c m ms =
     ap (λ ns. rows ++ rows_at c ns) (reverse-append (m ∷ []) ms) ∙ ap (λ more. rows ++ more) (rows_at-append c (reverse ms) (m ∷ [])) ∙ sym (append_assoc rows (rows_at c (reverse ms)) (rows_at c (m ∷ [])))
@@ -103,7 +104,7 @@ set-twice [] k v w inside is = absurd (omega (arith, inside))
 set-twice (x ∷ xs) zero v w inside is = ap (λ y. y ∷ xs) (sym is)
 set-twice (x ∷ xs) (suc k) v w inside is = ap (λ ys. x ∷ ys) (set-twice xs k v w (omega (arith, inside)) is)
 
--- no row stands at a class that isn't present
+-- no row is at a class that isn't present
 pub without-absent : (o : OriginView) (supers : List (Option Presence)) (k : ℕ) (rows : List Row) → is_present supers k ≡ false → list_all (is_sound_row o supers) rows ≡ true → without_class k rows ≡ rows
 without-absent o supers k [] gone all = refl
 without-absent o supers k (r ∷ rs) gone all =
@@ -144,7 +145,7 @@ pub covered : (t : ClassTable) (c : ClassRef) (s i : ℕ) → table_after t (cov
 unfolding table_after
 covered t c s i = let supers = covering-supers t.supers c s i in let rows = covering-rows t c s i in λ j. record { supers = supers j; rows = rows j }
 
--- a row leaves and comes again
+-- a row is removed and added again
 pub comes-again : (rows : List Row) (c : ClassRef) (s i : ℕ) → own rows c s ≡ Some i → SameRows (without_own c s rows ++ record { class = c; sel = s; imp = i } ∷ []) rows
 comes-again rows c s i is = record {
   imps = λ d u. imps-append d u (without_own c s rows) (record { class = c; sel = s; imp = i } ∷ []) ∙ ap (λ l. l ++ imps_of d u (record { class = c; sel = s; imp = i } ∷ [])) (imps-without c s d u rows) ∙ at d u (same_class c d) refl (s == u) refl;
@@ -170,7 +171,7 @@ abbrev pub rows_of : ClassRef → List Row → List Row
 rows_of c [] = []
 rows_of c (r ∷ rs) = cond (same_class r.class c) (record { class = c; sel = r.sel; imp = r.imp } ∷ rows_of c rs) (rows_of c rs)
 
--- they come again one by one
+-- they are added again one by one
 pub covered-all : (supers : List (Option Presence)) (rows : List Row) (c : ClassRef) (rs : List Row) → table_after_all (record { supers = supers; rows = rows }) (covering_all c rs) ≡ record { supers = supers; rows = rows ++ rows_of c rs }
 covered-all supers rows c [] = ap (λ rest. record { supers = supers; rows = rest }) (sym (append-nil rows))
 covered-all supers rows c (r ∷ rs) = step (same_class r.class c) refl (covered-all supers rows c rs) (covered-all supers (rows ++ record { class = c; sel = r.sel; imp = r.imp } ∷ []) c rs)
@@ -208,7 +209,7 @@ imps-rows_of c d u (r ∷ rs) = step (same_class r.class c) refl (same_class c d
         other e f = ap (same_class r.class) (sym (same_class-is c d f)) ∙ e
     step false e false f rest = rest
 
--- of three parts a row is in just one
+-- a row is in just one of three parts
 one-part : (test : ClassRef → Bool) (k : ℕ) (z : ClassRef) → cond (test z && not (z.class == k)) 1 0 + (cond (test z && same_class z (of_class k)) 1 0 + cond (test z && same_class z (of_meta k)) 1 0) ≡ cond (test z) 1 0
 one-part test k z = step (test z) (z.class == k) z.meta
   where

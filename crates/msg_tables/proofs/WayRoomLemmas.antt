@@ -1,5 +1,4 @@
--- A way back writes no more entries than its list, and wants no memory where there is room for
--- those.
+-- A way back writes no more entries than its list, and needs no memory if there is room for those.
 use Rattle.std.proofs.Common.{◌≡◌, ◌<◌, ◌≤◌, ◌+◌, ◌⊎◌, ℕ, zero, suc, List, [], ◌∷◌, ◌++◌, take, length, length-append, Option, Some, None, Bool, true, false, cond, refl, sym, ap, ◌∙◌, subst, arith}
 use Rattle.std.specs.Prelude.{◌==◌, ◌&&◌, nat_le}
 use Rattle.std.proofs.lemmas.Bool.Decides.{nat_tests}
@@ -32,7 +31,7 @@ use Rattle.msg_tables.proofs.SeveralLemmas.{table-and_all}
 use Rattle.msg_tables.proofs.UndoLemmas.{after_all-append}
 use Rattle.msg_tables.proofs.WayBackAllLemmas.{back-all, kept-at, numbered-parts}
 
--- ---- changes that write an entry at most
+-- ---- changes that write at most one entry
 
 tells_one : Change → Bool
 tells_one (Add c s i) = true
@@ -125,7 +124,7 @@ count-covering c (r ∷ rs) = step (same_class r.class c) (count-covering c rs)
     step true e = omega (arith, e)
     step false e = omega (arith, e)
 
--- no row stands at a class that isn't present
+-- no row is at a class that isn't present
 count-absent : (o : OriginView) (supers : List (Option Presence)) (c : ClassRef) (rs : List Row) → is_present supers c.class ≡ false → list_all (is_sound_row o supers) rs ≡ true → count_at (λ d. same_class d c) rs ≡ 0
 count-absent o supers c [] gone sound = refl
 count-absent o supers c (r ∷ rs) gone sound =
@@ -137,7 +136,7 @@ count-absent o supers c (r ∷ rs) gone sound =
     step true e there rest = let clash = sym there ∙ ap (λ (d : ClassRef). is_present supers d.class) (same_class-is r.class c e) ∙ gone in cc
     step false e there rest = omega (arith, rest)
 
--- a class that was made has no rows once what came after it was taken back
+-- a class that was made has no rows after what came after it was taken back
 few-dispose : (o : OriginView) (t u : ClassTable) (k : ℕ) (d : Option ℕ) → Kept o t → May o t (AddClass k d) → AreAlike u (table_after t (AddClass k d)) → length (undo u (DisposeClass k)) ≤ 1
 unfolding table_after
 few-dispose o t u k d kept may alike =

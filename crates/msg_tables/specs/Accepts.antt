@@ -1,4 +1,4 @@
--- What tables do with one change, at whatever log they stand.
+-- What tables do with one change, at whatever log they are.
 use Rattle.std.specs.Prelude.{◌≡◌, Some, None}
 use Rattle.msg_tables.specs.declared.change.Change.{Change}
 use Rattle.msg_tables.specs.declared.fault.ChangeFault.{ChangeFault}
@@ -15,6 +15,6 @@ Accepts t x = (h : Log) → StandsAt t h → refusal h x ≡ None
 abbrev pub Refuses : TablesView → Change → ChangeFault → Type 0
 Refuses t x f = (h : Log) → StandsAt t h → refusal h x ≡ Some f
 
--- they accepted it, and stand at the log longer by it
+-- they accepted it, and are now at the log with it added
 abbrev pub Makes : TablesView → Change → TablesView → Type 0
 Makes old x new = (h : Log) → StandsAt old h → (refusal h x ≡ None) × StandsAt new (and_then h x)

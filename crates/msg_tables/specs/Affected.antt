@@ -13,7 +13,7 @@ abbrev pub at_most_one : Option ClassRef → List ClassRef
 at_most_one None = []
 at_most_one (Some c) = c ∷ []
 
--- a class reference, where it gets methods
+-- a class reference, if it gets methods
 abbrev pub if_any : List (ℕ × ℕ) → ClassRef → List ClassRef
 if_any [] c = []
 if_any (m ∷ ms) c = c ∷ []
@@ -29,13 +29,13 @@ written_refs h (AddClass k d) = []
 written_refs h (Remove c s) = c ∷ []
 written_refs h (DisposeClass k) = []
 
--- the class reference is of the class that a change makes or disposes of
+-- the class reference belongs to the class that a change makes or disposes of
 abbrev pub is_of_made : Change → ClassRef → Bool
 is_of_made (AddClass k d) c = c.class == k
 is_of_made (DisposeClass k) c = c.class == k
 is_of_made _ c = false
 
--- the class reference is of the class that is made or disposed of, or is below a place of the
--- change, or such a place
+-- the class reference belongs to the class that is made or disposed of, or it is at or below a
+-- place of the change
 unfoldable pub is_affected : Log → Change → ClassRef → Bool
 is_affected h x c = is_of_made x c || list_any (λ place. is_member place (chain_at h c)) (written_refs h x)

@@ -28,11 +28,11 @@ abbrev pub list_rows : List MethodsOf → List Row
 list_rows [] = []
 list_rows (l ∷ ls) = rows_at l.class l.methods ++ list_rows ls
 
--- the listed classes are present as tables are opened, and the classes that may be made aren't
+-- the listed classes are present when tables are opened, and the classes that may be made aren't
 abbrev pub opened_supers : OriginView → List (Option Presence)
 opened_supers o = map (λ (d : Option ℕ). Some (record { superclass = d })) o.superclasses ++ replicate o.made None
 
--- the tables as they are opened
+-- the tables when they are opened
 unfoldable pub opening_table : OriginView → ClassTable
 opening_table o = record { supers = opened_supers o; rows = list_rows o.lists }
 
@@ -41,7 +41,7 @@ abbrev pub set_own : ClassRef → ℕ → ℕ → List Row → List Row
 set_own c s i [] = []
 set_own c s i (r ∷ rs) = (if is_at c s r && is_none (own rs c s) then record { class = c; sel = s; imp = i } else r) ∷ set_own c s i rs
 
--- another implementation in the method, where it stands
+-- another implementation in the method, at its place
 abbrev pub set_method : Option ClassRef → ℕ → ℕ → List Row → List Row
 set_method None s i rows = rows
 set_method (Some holder) s i rows = set_own holder s i rows
@@ -59,8 +59,8 @@ without_class k (r ∷ rs) = if r.class.class == k then without_class k rs else 
 abbrev pub row : ClassRef → Selector → ImpRef → Row
 row c s i = record { class = c; sel = selector_number s; imp = imp_number i }
 
--- The rows after a change. Attached methods go last, each list from its last entry to its first, so
--- that the earlier of two entries counts.
+-- The rows after a change. Attached methods are added at the end, each list from its last entry to
+-- its first, so that the earlier of two entries counts.
 abbrev pub rows_after : ClassTable → Change → List Row
 rows_after t (Add c s i) = t.rows ++ row c s i ∷ []
 rows_after t (Replace c s i) =
@@ -76,8 +76,8 @@ rows_after t (AddClass k d) = t.rows
 rows_after t (Remove c s) = without_own c (selector_number s) t.rows
 rows_after t (DisposeClass k) = without_class k t.rows
 
--- The classes after a change. A class that is made has the superclass that is named, and one that
--- is disposed of isn't present any more.
+-- The classes after a change. A class that is made has the superclass that the change names, and
+-- one that is disposed of is no longer present.
 abbrev pub supers_after : List (Option Presence) → Change → List (Option Presence)
 supers_after supers (Add c s i) = supers
 supers_after supers (Replace c s i) = supers

@@ -19,7 +19,7 @@ abbrev pub category_lists : List Category → List MethodsOf
 category_lists [] = []
 category_lists (c ∷ cs) = two_lists c.class c.methods c.class_methods ++ category_lists cs
 
--- of these method lists a pair is those of a class and of its metaclass
+-- the method lists of a pair are those of a class and of its metaclass
 pub record ListsAt (lists : List MethodsOf) (pair class : ℕ) (methods class_methods : List (ℕ × ℕ)) : Type 0 where
   pub own : slice_get lists (2 * pair) ≡ Some (record { class = of_class class; methods = methods })
   pub meta : slice_get lists (2 * pair + 1) ≡ Some (record { class = of_meta class; methods = class_methods })

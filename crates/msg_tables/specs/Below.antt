@@ -1,4 +1,4 @@
--- Class references at and below one.
+-- A class reference and those below it.
 use Rattle.std.specs.Prelude.{◌≡◌, ◌&&◌, ℕ, List, Bool, if◌then◌else◌}
 use Rattle.std.specs.Vec.{vec_capacity}
 use Rattle.msg_names.specs.declared.value.ClassRef.{ClassRef}
@@ -7,22 +7,22 @@ use Rattle.msg_tables.specs.Log.{Log, chain_at}
 use Rattle.msg_tables.specs.Preorder.{is_in}
 use Rattle.msg_tables.specs.declared.below.Below.TheInside.{Inside}
 
--- Some classes: of each itself, its metaclass, or both.
+-- A set of classes, which stands for the classes, for their metaclasses, or for both.
 pub record BelowView : Type 0 where
   pub classes : List ℕ
   pub own : Bool
   pub meta : Bool
-  -- how many classes there is room for
+  -- the number of classes that there is room for
   pub room : ℕ
 
--- they have this class reference
+-- the set has this class reference
 abbrev pub covers : BelowView → ClassRef → Bool
 covers b c = (if c.meta then b.meta else b.own) && is_in c.class b.classes
 
--- they are a class reference and those below it, at a log
+-- the set has a class reference and those below it, at a log
 abbrev pub AreBelow : Log → ClassRef → BelowView → Type 0
 AreBelow h class b = (c : ClassRef) → covers b c ≡ is_member class (chain_at h c)
 
--- what contracts see of them
+-- the contracts' view of the set
 abbrev pub below_of : Inside → BelowView
 below_of b = record { classes = b.classes.items; own = b.own; meta = b.meta; room = vec_capacity b.classes }

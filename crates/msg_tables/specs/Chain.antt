@@ -6,15 +6,15 @@ use Rattle.msg_names.specs.declared.value.ClassRef.{ClassRef}
 use Rattle.msg_names.specs.ClassRef.{same_class, above}
 use Rattle.msg_tables.specs.declared.presence.Presence.{Presence}
 
--- the class with this number, where it is present
+-- the class with this number, if it is present
 abbrev pub presence_of : List (Option Presence) → ℕ → Option Presence
 presence_of supers k = slice_index_or supers k None
 
--- a test of a class: it is listed in a class list or was made
+-- whether a class is listed in a class list or was made
 abbrev pub is_present : List (Option Presence) → ℕ → Bool
 is_present supers k = is_some (presence_of supers k)
 
--- the superclass of a class reference, where each class that is present has the superclass that is
+-- the superclass of a class reference, if each class that is present has the superclass given here
 -- given here
 abbrev pub super_of : List (Option Presence) → ClassRef → Option ClassRef
 super_of supers c = option_map_or (λ p. above c p.superclass) (presence_of supers c.class) None
@@ -24,12 +24,12 @@ abbrev pub chain_up : ℕ → List (Option Presence) → ClassRef → List Class
 chain_up zero supers c = c ∷ []
 chain_up (suc n) supers c = c ∷ option_map_or (chain_up n supers) (super_of supers c) []
 
--- From a class reference upward, to a root class, and nothing from one that isn't present. No more
--- stand above it than there are class numbers: at most the other metaclasses and the root class.
+-- A class reference and those above it, up to a root class; nothing for one that isn't present. No
+-- more are above it than there are class numbers: at most the other metaclasses and the root class.
 unfoldable pub chain_of : List (Option Presence) → ClassRef → List ClassRef
 chain_of supers c = if is_present supers c.class then chain_up (length supers) supers c else []
 
--- the class reference, where its class is present
+-- the class reference, if its class is present
 abbrev pub only_present : List (Option Presence) → ClassRef → Option ClassRef
 only_present supers c = if is_present supers c.class then Some c else None
 
@@ -38,16 +38,16 @@ abbrev pub index_in : List ℕ → ℕ → ℕ
 index_in [] k = 0
 index_in (x ∷ xs) k = if x == k then 0 else suc (index_in xs k)
 
--- at least as many as stand above a class reference, where each superclass stands before its
--- subclasses in the order
+-- a number that is at least the number of classes above a class reference, if each superclass comes
+-- before its subclasses in the order
 abbrev pub steps_of : List ℕ → ClassRef → ℕ
 steps_of order c = index_in order c.class + (if c.meta then 1 else 0)
 
--- fewer may stand above this class reference than above another
+-- fewer can be above this class reference than above another
 abbrev pub HasFewerSteps : List ℕ → ClassRef → ClassRef → Type 0
 HasFewerSteps order c above = steps_of order above < steps_of order c
 
--- one of the list
+-- an element of the list
 abbrev pub is_member : ClassRef → List ClassRef → Bool
 is_member c cs = list_any (same_class c) cs
 
@@ -59,10 +59,10 @@ descends supers origin c = is_member origin (chain_of supers c)
 abbrev pub is_directly_below : ℕ → Option Presence → Bool
 is_directly_below k x = option_map_or (λ p. option_map_or (λ d. d == k) p.superclass false) x false
 
--- some class that is present stands directly below a class
+-- some class that is present is directly below a class
 abbrev pub has_subclass : List (Option Presence) → ℕ → Bool
 has_subclass supers k = list_any (is_directly_below k) supers
 
--- no superclass stands above a class
+-- a class has no superclass above it
 abbrev pub is_root : List (Option Presence) → ℕ → Bool
 is_root supers k = option_map_or (λ p. is_none p.superclass) (presence_of supers k) true

@@ -3,7 +3,7 @@ use Rattle.std.specs.Prelude.{ℕ}
 use Rattle.msg_tables.specs.declared.fault.ChangeFault.{ChangeFault}
 use Rattle.msg_tables.specs.declared.fault.ChangeFault.TheVariants as faults
 
--- the numbers of the faults of changes
+-- the number of a change's fault
 abbrev pub change_fault_number : ChangeFault → ℕ
 change_fault_number faults.NoClass = 1
 change_fault_number faults.NoImp = 2

@@ -7,7 +7,7 @@ use Rattle.msg_tables.specs.declared.origin.Category.{Category}
 use Rattle.msg_tables.specs.declared.origin.ListedClass.{ListedClass}
 use Rattle.msg_tables.specs.declared.origin.Origin.TheInside.{Inside}
 
--- the origin of listed classes, of which so many more may be made, and of categories
+-- the origin of listed classes, of a number of classes that may be made, and of categories
 abbrev pub origin_of : List ListedClass → ℕ → List Category → Option CountsView → Limits → OriginView
 origin_of classes made categories counts limits = record {
   superclasses = map (λ (c : ListedClass). c.superclass) classes;
@@ -17,6 +17,6 @@ origin_of classes made categories counts limits = record {
   limits = limits;
 }
 
--- what contracts see of an origin
+-- the contracts' view of an origin
 abbrev pub origin_view : Inside → OriginView
 origin_view o = origin_of o.classes.items o.made o.categories.items o.counts o.limits

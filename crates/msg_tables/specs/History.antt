@@ -1,4 +1,4 @@
--- Histories: lists of changes, of which each list is made as one, so that nobody sees a part of it.
+-- Histories: lists of changes, each made as one, so that nobody sees a part of a list.
 use Rattle.std.specs.Prelude.{◌≡◌, ℕ, List, [], ◌∷◌, ◌++◌, Option}
 use Rattle.msg_names.specs.declared.value.ClassRef.{ClassRef}
 use Rattle.msg_tables.specs.Origin.{OriginView}
@@ -6,7 +6,7 @@ use Rattle.msg_tables.specs.declared.change.Change.{Change}
 use Rattle.msg_tables.specs.Log as logs
 use Rattle.msg_tables.specs.Log.{Log}
 
--- what tables were opened of, and the lists of changes that were accepted, oldest first
+-- what tables were opened from, and the lists of changes that were accepted, oldest first
 pub record History : Type 0 where
   pub origin : OriginView
   pub changes : List (List Change)
@@ -15,7 +15,7 @@ pub record History : Type 0 where
 abbrev pub empty : OriginView → History
 empty o = record { origin = o; changes = [] }
 
--- the history longer by changes that are made as one
+-- the history with one more list of changes that are made as one
 abbrev pub and_then : History → List Change → History
 and_then h xs = record { origin = h.origin; changes = h.changes ++ xs ∷ [] }
 
@@ -24,15 +24,15 @@ abbrev pub one_by_one : List (List Change) → List Change
 one_by_one [] = []
 one_by_one (xs ∷ more) = xs ++ one_by_one more
 
--- what the tables know of a history: its changes, one after another
+-- the log of a history, which is what tables know of it: its changes, one after another
 abbrev pub log : History → Log
 log h = record { origin = h.origin; changes = one_by_one h.changes }
 
--- the implementation that a lookup finds at a history, by number, or 0 for forwarding
+-- the number of the implementation that a lookup finds at a history, or 0 for forwarding
 abbrev pub lookup : History → ClassRef → ℕ → ℕ
 lookup h c s = logs.lookup (log h) c s
 
--- the class reference at which the method that it finds stands
+-- the class reference that has the method that a lookup finds
 abbrev pub holder : History → ClassRef → ℕ → Option ClassRef
 holder h c s = logs.holder (log h) c s
 

@@ -5,12 +5,12 @@ use Rattle.std.specs.Vec.{vec_capacity}
 use Rattle.msg_tables.specs.declared.limits.TheConstants.{MAX_CLASSES}
 use Rattle.msg_tables.specs.Order.{IsOrder}
 use Rattle.msg_tables.specs.Preorder.{HavePreorder}
-use Rattle.msg_tables.specs.RowList.{rooms_of, rows_of}
+use Rattle.msg_rows.specs.RowList.{rooms_of, rows_of}
 use Rattle.msg_tables.specs.View.{TablesView}
 use Rattle.msg_tables.specs.Origin.{last_imp, are_listed}
 use Rattle.msg_tables.specs.declared.tables.Tables.TheInside.{Inside}
 
--- what contracts see of tables
+-- the contracts' view of tables
 abbrev pub view_of : Inside → TablesView
 view_of t = record {
   supers = t.supers.items;
@@ -26,16 +26,16 @@ view_of t = record {
 
 -- the invariant of tables
 pub record AreSoundTables (t : Inside) : Type 0 where
-  -- the classes that are present stand in an order in which each comes after its superclass
+  -- the classes that are present are in an order in which each comes after its superclass
   pub order : IsOrder t.supers.items t.order.items
   -- and there is room for the others
   pub room : length t.supers.items ≤ vec_capacity t.order
-  -- and in one in which those below a class come right after it
+  -- and they are in an order in which those below a class come right after it
   pub preorder : HavePreorder t.supers.items t.preorder.depths.items t.preorder.nexts.items
   -- there is a list for each class reference
   pub lists : length t.lists ≡ 2 * length t.supers.items
   pub listed : list_all (are_listed (last_imp t.counts)) (rows_of t.lists) ≡ true
-  -- and all have so many rows
+  -- and the number of rows in all of them is counted
   pub counted : t.row_count ≡ sum_by length (rows_of t.lists)
   pub few_classes : length t.supers.items ≤ MAX_CLASSES
   pub few_rows : t.row_count ≤ t.limits.rows

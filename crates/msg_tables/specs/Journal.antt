@@ -23,7 +23,7 @@ use Rattle.msg_tables.specs.Edits.{Writes}
 use Rattle.msg_tables.specs.Log.{Log, table}
 use Rattle.msg_tables.specs.Order.{IsOrder}
 use Rattle.msg_tables.specs.Origin.{last_imp, are_listed}
-use Rattle.msg_tables.specs.RowList.{HaveGrown, RowList, rooms_of, rows_of, last_index, own_in, set_last, with_row_at, without_last, without_row}
+use Rattle.msg_rows.specs.RowList.{HaveGrown, RowList, rooms_of, rows_of, last_index, own_in, set_last, with_row_at, without_last, without_row}
 use Rattle.msg_tables.specs.Several.{is_of_one, made_by}
 use Rattle.msg_tables.specs.Chain.{is_member, presence_of}
 use Rattle.std.specs.Option.{option_map_or}
@@ -39,7 +39,7 @@ place_of (Removed c s i at) = Some c
 place_of (Made k) = None
 place_of (Disposed k d at) = None
 
--- of all entries
+-- the class references of all entries
 abbrev pub places_of : List Entry → List ClassRef
 places_of [] = []
 places_of (e ∷ es) = at_most_one (place_of e) ++ places_of es
@@ -59,7 +59,7 @@ NamesListed n (Removed c s i at) = c.class < n
 NamesListed n (Made k) = k < n
 NamesListed n (Disposed k d at) = k < n
 
--- of each entry
+-- the same for each entry
 abbrev pub AllNameListed : ℕ → List Entry → Type 0
 AllNameListed n [] = Unit {0}
 AllNameListed n (e ∷ es) = NamesListed n e × AllNameListed n es
@@ -84,13 +84,13 @@ rewrote r was = Rewrote r.class r.sel was
 abbrev pub IsImpOf : TablesView → MethodRow → ImpRef → Type 0
 IsImpOf t r i = own_in (selector_number r.sel) (kept t.lists r.class) ≡ Some (imp_number i)
 
--- the classes before it
+-- the classes before an entry
 abbrev pub supers_before : Entry → List (Option Presence) → List (Option Presence)
 supers_before (Made k) supers = slice_set supers k None
 supers_before (Disposed k d at) supers = slice_set supers k (Some (record { superclass = d }))
 supers_before _ supers = supers
 
--- and their order
+-- the order of the classes before an entry
 abbrev pub order_before : Entry → List ℕ → List ℕ
 order_before (Made k) order = take (length order - 1) order
 order_before (Disposed k d at) order = take at order ++ k ∷ drop at order
@@ -107,26 +107,27 @@ makes (Made k) = true
 makes (Disposed k d at) = true
 makes _ = false
 
--- there is room for what an entry gives back, where that is how it is then
+-- there is room for what an entry gives back, if the lists and the order are then as given
 abbrev pub FitsBack : List ℕ → ℕ → List (List (ℕ × ℕ)) → List ℕ → Entry → Type 0
 FitsBack rooms classes lists order (Removed c s i at) = (at < length (kept lists c)) × (length (kept lists c) ≤ slice_index_or rooms (slot_of c) 0)
 FitsBack rooms classes lists order (Disposed k d at) = (at < length order) × (length order ≤ classes)
 FitsBack rooms classes lists order _ = Unit {0}
 
--- so of each entry, as those behind it are taken back before
+-- the same for each entry, after the later ones were taken back
 abbrev pub AllFitBack : List ℕ → ℕ → List (List (ℕ × ℕ)) → List ℕ → List Entry → Type 0
 AllFitBack rooms classes lists order [] = Unit {0}
 AllFitBack rooms classes lists order (e ∷ es) =
     FitsBack rooms classes (before_all lists_before (e ∷ es) lists) (before_all order_before (e ∷ es) order) e × AllFitBack rooms classes lists order es
 
--- the same of the lists and the order as the code has them, before it is taken back
+-- the same for the lists and the order of the code, before the journal is taken back
 abbrev pub CanGoBack : Entry → ℕ → List RowList → List ℕ → Type 0
 CanGoBack e classes lists order = FitsBack (rooms_of lists) classes (lists_before e (rows_of lists)) (order_before e order) e
 
 abbrev pub CanAllGoBack : List Entry → ℕ → List RowList → List ℕ → Type 0
 CanAllGoBack es classes lists order = AllFitBack (rooms_of lists) classes (rows_of lists) order es
 
--- Once all entries are taken back, what is there now is what was there; and there is room for it.
+-- After all entries are taken back, the present state is the former one, and there is room for
+-- that.
 pub record IsJournalOf (journal : List Entry) (old new : TablesView) : Type 0 where
   pub lists : before_all lists_before journal new.lists ≡ old.lists
   pub supers : before_all supers_before journal new.supers ≡ old.supers
@@ -138,7 +139,7 @@ pub record IsJournalOf (journal : List Entry) (old new : TablesView) : Type 0 wh
 abbrev pub TellsRewritten : MethodRow → TablesView → TablesView → Type 0
 TellsRewritten r old new = (was : ImpRef) → IsImpOf old r was → IsJournalOf (rewrote r was ∷ []) old new
 
--- the entries of two take them back
+-- the entries of two such rows take them back
 abbrev pub TellBothRewritten : MethodRow → MethodRow → TablesView → TablesView → Type 0
 TellBothRewritten first second old new = (one two : ImpRef) → IsImpOf old first one → IsImpOf old second two → IsJournalOf (rewrote first one ∷ rewrote second two ∷ []) old new
 
@@ -146,7 +147,7 @@ TellBothRewritten first second old new = (one two : ImpRef) → IsImpOf old firs
 abbrev pub added_all : ClassRef → List (ℕ × ℕ) → List Entry
 added_all c methods = map (λ m. Added c (selector_of m.0)) methods
 
--- the last own row of a class reference and a selector left
+-- the last own row of a class reference and a selector was removed
 abbrev pub IsRemoved : ClassRef → Selector → TablesView → TablesView → Type 0
 IsRemoved c s old new = new ≡ record old {
   lists = slice_set old.lists (slot_of c) (without_row (selector_number s) (kept old.lists c));
@@ -154,7 +155,7 @@ IsRemoved c s old new = new ≡ record old {
   row_count = new.row_count;
 }
 
--- an entry tells of that row
+-- an entry describes that row
 pub record TellsRemoved (t : TablesView) (c : ClassRef) (s : Selector) (e : Entry) : Type 0 where
   pub imp : ImpRef
   pub at : ℕ
@@ -162,7 +163,7 @@ pub record TellsRemoved (t : TablesView) (c : ClassRef) (s : Selector) (e : Entr
   pub own : own_in (selector_number s) (kept t.lists c) ≡ Some (imp_number imp)
   pub last : last_index (selector_number s) (kept t.lists c) ≡ Some at
 
--- or of a class that left
+-- an entry describes a class that was removed
 pub record TellsDisposed (t : TablesView) (k : ℕ) (e : Entry) : Type 0 where
   pub superclass : Option ℕ
   pub at : ℕ
@@ -183,7 +184,7 @@ edit_places (edits.Make k d) = []
 edit_places (edits.Remove c s) = c ∷ []
 edit_places (edits.Dispose k) = []
 
--- the class that it makes or disposes of
+-- the class that an edit makes or disposes of
 abbrev pub edit_made : Edit → List ℕ
 edit_made (edits.Make k d) = k ∷ []
 edit_made (edits.Dispose k) = k ∷ []
@@ -193,7 +194,7 @@ edit_made _ = []
 abbrev pub MakesTheSame : Change → Edit → Type 0
 MakesTheSame x e = edit_made e ≡ made_by x
 
--- how many entries tell of it
+-- the number of entries that describe an edit
 abbrev pub entry_count : TablesView → Edit → ℕ
 entry_count t (edits.RewriteBoth first second) = 2
 entry_count t (edits.Attach k methods class_methods) = length methods.now + length class_methods.now
@@ -208,20 +209,20 @@ undo_entry (Removed c s i at) = covering c (selector_number s) (imp_number i)
 undo_entry (Made k) = DisposeClass k
 undo_entry (Disposed k d at) = AddClass k d
 
--- those that take a journal back, the last entry first
+-- the changes that take a journal back, the last entry first
 abbrev pub undo_journal : List Entry → List Change
 undo_journal [] = []
 undo_journal (e ∷ es) = undo_journal es ++ undo_entry e ∷ []
 
--- an own row gets the implementation again that it has
+-- the change that gives an own row its implementation again
 abbrev pub undo_own : TablesView → MethodRow → List Change
 undo_own t r = option_map_or (λ i. Replace r.class r.sel (imp_ref_of i) ∷ []) (own_in (selector_number r.sel) (kept t.lists r.class)) []
 
--- rows come again, oldest first
+-- the changes that add rows again, oldest first
 abbrev pub cover_all : ClassRef → List (ℕ × ℕ) → List Change
 cover_all c methods = map (λ m. covering c m.0 m.1) methods
 
--- what takes an edit back, of the tables before it
+-- the changes that take an edit back, by the tables before it
 abbrev pub edit_undo : TablesView → Edit → List Change
 edit_undo t (edits.Append r) = Remove r.class r.sel ∷ []
 edit_undo t (edits.Rewrite r) = undo_own t r
@@ -236,17 +237,17 @@ edit_undo t (edits.Dispose k) =
 abbrev pub WritesAt : TablesView → Change → Edit → Type 0
 WritesAt t x e = (h : Log) → StandsAt t h → edit_places e ≡ written_refs h x
 
--- and what takes it back is what takes the change back
+-- the changes that take an edit back are those that take the change back
 abbrev pub IsUndoneBy : TablesView → Change → Edit → Type 0
 IsUndoneBy t x e = (h : Log) → StandsAt t h → edit_undo t e ≡ undo (table h) x
 
--- the places are those at which something was written, and beside them only ones of classes that
+-- the places are those at which something was written, and otherwise only places of classes that
 -- were made or disposed of
 pub record ArePlacesOf (written : List ClassRef) (made : List ℕ) (places : List ClassRef) : Type 0 where
   pub told : (c : ClassRef) → is_member c written ≡ true → is_member c places ≡ true
   pub only : (c : ClassRef) → is_member c places ≡ true → (is_of_one made c || is_member c written) ≡ true
 
--- an edit was made, and the journal is longer by what it wrote
+-- an edit was made, and the journal has what it wrote added
 pub record Journals (e : Edit) (journal longer : List Entry) (old new : TablesView) : Type 0 where
   pub writes : Writes old new e
   pub entries : List Entry
@@ -257,7 +258,7 @@ pub record Journals (e : Edit) (journal longer : List Entry) (old new : TablesVi
   pub undone : undo_journal entries ≡ edit_undo old e
   pub listed : AllNameListed (length old.supers) entries
 
--- rows of a class reference were taken away, the last first, and the journal is longer by them
+-- rows of a class reference were removed, the last first, and the journal has them added
 pub record TakesRows (c : ClassRef) (journal longer : List Entry) (old new : TablesView) : Type 0 where
   pub entries : List Entry
   pub is : longer ≡ journal ++ entries
@@ -271,11 +272,11 @@ pub record TakesRows (c : ClassRef) (journal longer : List Entry) (old new : Tab
   pub undone : cover_all c (kept new.lists c) ++ undo_journal entries ≡ cover_all c (kept old.lists c)
   pub listed : AllNameListed (length old.supers) entries
 
--- the same of the vector that holds the journal
+-- the same for the vector that holds the journal
 abbrev pub IsNoted : Edit → Vec Entry Global → Vec Entry Global → TablesView → TablesView → Type 0
 IsNoted e journal longer old new = Journals e journal.items longer.items old new
 
--- of a category that is attached
+-- the same for a category that is attached
 abbrev pub IsAttachNoted : ℕ → Bor (List (ℕ × ℕ)) → Bor (List (ℕ × ℕ)) → Vec Entry Global → Vec Entry Global → TablesView → TablesView → Type 0
 IsAttachNoted k methods class_methods journal longer old new = IsNoted (edits.Attach k methods class_methods) journal longer old new
 
@@ -289,12 +290,12 @@ pub record IsSoundView (t : TablesView) : Type 0 where
   pub few_rows : t.row_count ≤ t.limits.rows
   pub few_changes : t.change_count ≤ t.limits.changes
 
--- what was there before the journal, with its counts of rows and of changes
+-- the state before the journal, with its counts of rows and of changes
 pub record GoesBack (journal : List Entry) (rows changes : ℕ) (old now : TablesView) : Type 0 where
   pub sound : IsSoundView old
   pub back : IsJournalOf journal old now
   pub rest : old ≡ record now { supers = old.supers; order = old.order; lists = old.lists; rooms = old.rooms; row_count = rows; change_count = changes }
 
--- whatever was there before the journal is there again, with the room that there is now
+-- whatever the state before the journal was, it is restored, with the room that there is now
 abbrev pub AreTakenBack : List Entry → ℕ → ℕ → TablesView → TablesView → Type 0
 AreTakenBack journal rows changes now new = (old : TablesView) → GoesBack journal rows changes old now → IsKept old new

@@ -3,7 +3,6 @@ pub mod Affected
 pub mod After
 pub mod Attached
 pub mod Below
-pub mod Buckets
 pub mod Chain
 pub mod ChangeList
 pub mod Contents
@@ -11,10 +10,8 @@ pub mod Edits
 pub mod FaultNumber
 pub mod Given
 pub mod History
-pub mod Indexed
 pub mod Inside
 pub mod Journal
-pub mod Kept
 pub mod Laws
 pub mod ListLaws
 pub mod Log
@@ -29,9 +26,7 @@ pub mod Origin
 pub mod Preorder
 pub mod Presence
 pub mod Refusal
-pub mod Reserved
 pub mod RoomLaws
-pub mod RowList
 pub mod Rows
 pub mod Several
 pub mod Stands

@@ -7,7 +7,7 @@ use Rattle.msg_tables.specs.Chain.{super_of}
 use Rattle.msg_tables.specs.Rows.{ClassTable, chain, holder_at, lookup_at}
 use Rattle.msg_tables.specs.After.{opening_table, table_after}
 
--- what tables were opened of, and the changes that were accepted, oldest first
+-- what tables were opened from, and the changes that were accepted, oldest first
 pub record Log : Type 0 where
   pub origin : OriginView
   pub changes : List Change
@@ -16,7 +16,7 @@ pub record Log : Type 0 where
 abbrev pub empty : OriginView → Log
 empty o = record { origin = o; changes = [] }
 
--- the log longer by a change
+-- the log with one more change
 abbrev pub and_then : Log → Change → Log
 and_then h x = record { origin = h.origin; changes = h.changes ++ x ∷ [] }
 
@@ -29,11 +29,11 @@ table_after_all t (x ∷ xs) = table_after_all (table_after t x) xs
 unfoldable pub table : Log → ClassTable
 table h = table_after_all (opening_table h.origin) h.changes
 
--- the implementation that a lookup finds at a log, by number, or 0 for forwarding
+-- the number of the implementation that a lookup finds at a log, or 0 for forwarding
 unfoldable pub lookup : Log → ClassRef → ℕ → ℕ
 lookup h c s = lookup_at (table h) c s
 
--- the class reference at which the method that it finds stands
+-- the class reference that has the method that a lookup finds
 unfoldable pub holder : Log → ClassRef → ℕ → Option ClassRef
 holder h c s = holder_at (table h) c s
 

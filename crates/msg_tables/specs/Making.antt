@@ -26,7 +26,7 @@ pub record IsBeside (old new : TablesView) : Type 0 where
   pub count : length new.supers ≡ length old.supers
   pub rest : old ≡ record new { supers = old.supers; order = old.order; lists = old.lists; rooms = old.rooms; row_count = old.row_count; change_count = old.change_count }
 
--- a change was made, and the journal is longer by what it wrote
+-- a change was made, and the journal has what it wrote added
 pub record IsPart (x : Change) (journal longer : List Entry) (old new : TablesView) : Type 0 where
   pub entries : List Entry
   pub is : longer ≡ journal ++ entries
@@ -37,20 +37,20 @@ pub record IsPart (x : Change) (journal longer : List Entry) (old new : TablesVi
   pub listed : AllNameListed (length old.supers) entries
   pub beside : IsBeside old new
 
--- so of a change as it is read
+-- the same for a change as it is read
 abbrev pub IsReadPart : ChangeRef → List Entry → List Entry → TablesView → TablesView → Type 0
 IsReadPart r journal longer old new = IsPart (change_of r) journal longer old new
 
--- a journal has the class references at which a list writes, and beside them only ones of classes
--- that it makes or disposes of
+-- a journal has the class references at which a list writes, and otherwise only those of classes
+-- that the list makes or disposes of
 abbrev pub HasPlaces : List Change → TablesView → List Entry → Type 0
 HasPlaces xs old journal = (h : Log) → StandsAt old h → ArePlacesOf (written_by_all h xs) (made_by_all xs) (places_of journal)
 
--- a journal has what takes a list back
+-- a journal has the entries that take a list back
 abbrev pub IsUndone : List Change → TablesView → List Entry → Type 0
 IsUndone xs old journal = (h : Log) → StandsAt old h → undo_all (table h) xs ≡ undo_journal journal
 
--- changes were made, and the journal tells what they wrote
+-- changes were made, and the journal describes what they wrote
 pub record IsMade (xs : List Change) (journal : List Entry) (old new : TablesView) : Type 0 where
   pub back : IsJournalOf journal old new
   pub stands : (h : Log) → StandsAt old h → AreAccepted h xs × StandsAt new (and_all h xs)
@@ -60,7 +60,7 @@ pub record IsMade (xs : List Change) (journal : List Entry) (old new : TablesVie
   pub listed : AllNameListed (length old.supers) journal
   pub beside : IsBeside old new
 
--- the tables stood at a log, and stand at the one after a list, of which none was refused
+-- the tables were at a log, and are at the log after a list, no change of which was refused
 abbrev pub StandAfter : List Change → TablesView → TablesView → Type 0
 StandAfter xs old new = (h : Log) → StandsAt old h → (refused_from 0 h xs ≡ None) × StandsAt new (and_all h xs)
 
@@ -68,25 +68,25 @@ StandAfter xs old new = (h : Log) → StandsAt old h → (refused_from 0 h xs �
 abbrev pub AreMadeTo : List Change → List Entry → TablesView → TablesView → Refused → Type 0
 AreMadeTo xs journal old new r = (r.place < length xs) × IsMade (take r.place xs) journal old new
 
--- none of a list would be refused
+-- no change of a list would be refused
 abbrev pub RefusesNone : List Change → TablesView → Type 0
 RefusesNone xs old = (h : Log) → StandsAt old h → refused_from 0 h xs ≡ None
 
--- this is the first of a list that would be refused, and its fault
+-- this is the first change of a list that would be refused, with its fault
 abbrev pub IsRefused : List Change → TablesView → Refused → Type 0
 IsRefused xs old r = (h : Log) → StandsAt old h → refused_from 0 h xs ≡ Some (r.place, r.fault)
 
--- unless memory was wanting
+-- the same, unless memory was lacking
 abbrev pub IsRefusedUnlessMemory : List Change → TablesView → Refused → Type 0
 IsRefusedUnlessMemory xs old r = r.fault ≢ Memory → IsRefused xs old r
 
--- where one more change would be made, and memory is wanting, the journal has too little room for
--- its entries, or some class reference for its rows
+-- if memory is lacking for one more change, the journal has too little room for its entries, or
+-- some class reference for its rows
 abbrev pub WantsMore : Change → ℕ → ℕ → TablesView → Type 0
 WantsMore x count room old = (h : Log) → StandsAt old h
     → (room < count + length (undo (table h) x)) ⊎ ((c : ClassRef) × (room_of old c < count_at (λ d. same_class d c) (table (and_then h x)).rows))
 
--- where memory was wanting, there was too little room for the changes so far and that one
+-- if memory was lacking, there was too little room for the changes so far and for that one
 abbrev pub WantsMemory : List Change → ℕ → TablesView → Refused → Type 0
 WantsMemory xs room old r = r.fault ≡ Memory → (h : Log) → StandsAt old h → LackRoomFor old.rooms room h (take (r.place + 1) xs)
 
@@ -94,27 +94,28 @@ WantsMemory xs room old r = r.fault ≡ Memory → (h : Log) → StandsAt old h 
 abbrev pub AreHeld : List Change → TablesView → TablesView → Type 0
 AreHeld xs old new = (h : Log) → StandsAt old h → HaveRoomFor new.rooms h xs
 
--- those before it would be made
+-- the changes before it would be made
 abbrev pub AreMadeBefore : List Change → TablesView → Refused → Type 0
 AreMadeBefore xs old r = (h : Log) → StandsAt old h → refused_from 0 h (take r.place xs) ≡ None
 
--- where memory was wanting, the change at that place would be made too
+-- if memory was lacking, the change at that place would be made too
 abbrev pub LacksMemory : List Change → TablesView → Refused → Type 0
 LacksMemory xs old r = r.fault ≡ Memory → (h : Log) → StandsAt old h → refused_from 0 h (take (r.place + 1) xs) ≡ None
 
--- what a list affects is marked, beside what was
+-- what a list affects is marked, in addition to what was
 abbrev pub ReachesAll : List Change → TablesView → List Bool → List Bool → Type 0
 ReachesAll xs t old new = (h : Log) → StandsAt t h → MarksAffectedByAll (length t.supers) h xs old new
 
--- what those before one of a list affect is marked, unless memory was wanting
+-- what the changes before one of a list affect is marked, unless memory was lacking
 abbrev pub ReachesBefore : List Change → TablesView → List Bool → List Bool → Refused → Type 0
 ReachesBefore xs t old new r = r.fault ≢ Memory → ReachesAll (take r.place xs) t old new
 
--- the class reference is of a class that a journal tells of, or is one of its places or below one
+-- the class reference belongs to a class in a journal, or it is at or below one of the journal's
+-- places
 abbrev pub is_told : Log → List Entry → ClassRef → Bool
 is_told h journal c = is_of_one (classes_of journal) c || is_below h (places_of journal) c
 
--- what entries tell of is marked, beside what was, as the tables are
+-- what entries describe is marked, in addition to what was, by the tables as they are
 abbrev pub MarksTold : TablesView → List Entry → List Bool → List Bool → Type 0
 MarksTold t entries old new = (h : Log) → StandsAt t h → (c : ClassRef) → c.class < length t.supers → is_marked new c ≡ (is_marked old c || is_told h entries c)
 
@@ -122,6 +123,6 @@ MarksTold t entries old new = (h : Log) → StandsAt t h → (c : ClassRef) → 
 abbrev pub IsMarkedBelow : TablesView → List Bool → ClassRef → Type 0
 IsMarkedBelow t marks place = (h : Log) → StandsAt t h → (c : ClassRef) → c.class < length t.supers → is_member place (chain_at h c) ≡ true → is_marked marks c ≡ true
 
--- what a list affects is found by its journal, once all is made
+-- after all changes of a list are made, its journal gives what it affects
 abbrev pub TellsAll : List Change → TablesView → List Entry → Type 0
 TellsAll xs old journal = (h : Log) → IsSound h.origin → StandsAt old h → (c : ClassRef) → is_affected_by_all h xs c ≡ true → is_told (and_all h xs) journal c ≡ true

@@ -1,17 +1,6 @@
--- Lists of methods by their numbers.
-use Rattle.std.specs.Prelude.{ℕ, List, map}
+-- Lists of methods of class references.
+use Rattle.std.specs.Prelude.{ℕ, List}
 use Rattle.msg_names.specs.declared.value.ClassRef.{ClassRef}
-use Rattle.msg_names.specs.declared.value.Selector.{Selector}
-use Rattle.msg_names.specs.declared.value.ImpRef.{ImpRef}
-use Rattle.msg_names.specs.Number.{selector_number, imp_number}
-
--- a pair's selector and implementation
-abbrev pub method_number : Selector × ImpRef → ℕ × ℕ
-method_number m = (selector_number m.0, imp_number m.1)
-
--- each pair's selector and implementation
-abbrev pub method_numbers : List (Selector × ImpRef) → List (ℕ × ℕ)
-method_numbers pairs = map (λ m. (selector_number m.0, imp_number m.1)) pairs
 
 -- a method list of a class reference: its own, or one of a category
 pub record MethodsOf : Type 0 where

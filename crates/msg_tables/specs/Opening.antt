@@ -1,4 +1,4 @@
--- How tables are filled as they are opened.
+-- How tables are filled when they are opened.
 use Rattle.std.specs.Prelude.{◌≡◌, ℕ, ◌+◌, ◌*◌, Bool, List, [], ◌++◌, None, length, replicate, sum_by, take}
 use Rattle.msg_names.specs.declared.value.ClassRef.{ClassRef}
 use Rattle.msg_tables.specs.Origin.{OriginView, class_total}
@@ -15,11 +15,11 @@ pub record Adds (old new : TablesView) (more : List Row) : Type 0 where
   pub row_count : new.row_count ≡ old.row_count + length more
   pub rest : new ≡ record old { lists = new.lists; rooms = new.rooms; row_count = new.row_count }
 
--- how many rows a method list brings
+-- the number of rows that a method list brings
 abbrev pub size_of_list : MethodsOf → ℕ
 size_of_list l = length l.methods
 
--- how many rows the method lists before that of a pair bring
+-- the number of rows that the method lists before those of a pair bring
 abbrev pub rows_before : List MethodsOf → ℕ → Bool → ℕ
 rows_before lists pair meta = sum_by size_of_list (take (list_place pair meta) lists)
 

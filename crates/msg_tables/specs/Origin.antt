@@ -1,4 +1,4 @@
--- What tables are opened of: classes with their methods, and limits.
+-- What tables are opened from: classes with their methods, and limits.
 use Rattle.std.specs.Prelude.{◌≡◌, ◌<◌, ◌≤◌, ◌+◌, ◌-◌, ◌==◌, ◌||◌, ℕ, nat_lt, nat_le, not, Bool, true, false, List, Option, Some, None, length, slice_get, sum_by, All}
 use Rattle.std.specs.List.{list_all, list_any}
 use Rattle.msg_names.specs.Number.{selector_number, imp_number}
@@ -9,7 +9,7 @@ use Rattle.msg_tables.specs.declared.limits.Limits.{Limits}
 use Rattle.msg_tables.specs.Methods.{MethodsOf}
 use Rattle.msg_tables.specs.declared.limits.TheConstants.{MAX_CLASSES, MAX_IMP, MOST_SENDERS, MOST_CHANGES, MOST_WORDS}
 
--- how many arguments each selector and each implementation takes, from number 1
+-- the number of arguments of each selector and of each implementation, from number 1
 pub record CountsView : Type 0 where
   pub colons : List ℕ
   pub args : List ℕ
@@ -18,16 +18,16 @@ pub record CountsView : Type 0 where
 pub record OriginView : Type 0 where
   -- the superclasses of the listed classes, which are numbered first
   pub superclasses : List (Option ℕ)
-  -- how many classes may be made, which are numbered after them
+  -- the number of classes that may be made, which are numbered after them
   pub made : ℕ
   -- the method lists, in the order in which they are attached
   pub lists : List MethodsOf
-  -- where they aren't known each number from 1 is a selector and an implementation, and all fit one
+  -- if they aren't known, each number from 1 is a selector and an implementation, and all fit one
   -- another
   pub counts : Option CountsView
   pub limits : Limits
 
--- how many classes have numbers: the listed ones, and those that may be made
+-- the number of classes with numbers: the listed ones, and those that may be made
 abbrev pub class_total : OriginView → ℕ
 class_total o = length o.superclasses + o.made
 
@@ -40,7 +40,7 @@ last_imp (Some c) = length c.args
 abbrev pub lacks_imp : Option CountsView → ℕ → Bool
 lacks_imp counts i = (i == 0) || nat_lt (last_imp counts) i
 
--- two counts that aren't known to be one
+-- two counts that are not known to be equal
 abbrev pub differ : Option ℕ → Option ℕ → Bool
 differ (Some n) (Some m) = not (n == m)
 differ _ _ = true
@@ -55,7 +55,7 @@ abbrev pub unlike_in : Option CountsView → ℕ → ℕ → Bool
 unlike_in None s u = false
 unlike_in (Some c) s u = differ (slice_get c.colons (s - 1)) (slice_get c.colons (u - 1))
 
--- some method has an implementation that there isn't
+-- some method has an implementation that doesn't exist
 abbrev pub any_lacks_imp : Option CountsView → List (Selector × ImpRef) → Bool
 any_lacks_imp counts methods = list_any (λ m. lacks_imp counts (imp_number m.1)) methods
 
@@ -67,16 +67,16 @@ any_misfits counts methods = list_any (λ m. misfits_in counts (selector_number 
 abbrev pub are_listed : ℕ → List (ℕ × ℕ) → Bool
 are_listed n methods = list_all (λ m. nat_le m.1 n) methods
 
--- how many rows the tables have as they are opened
+-- the number of rows that the tables have when they are opened
 abbrev pub row_total : OriginView → ℕ
 row_total o = sum_by (λ (l : MethodsOf). length l.methods) o.lists
 
--- a method list is of a listed class, with implementations that there are
+-- a method list is of a listed class, and its implementations exist
 pub record IsSoundList (o : OriginView) (l : MethodsOf) : Type 0 where
   pub class : l.class.class < length o.superclasses
   pub methods : are_listed (last_imp o.counts) l.methods ≡ true
 
--- numbers are those of what is there, chains of superclasses end, and sizes are within the limits
+-- all numbers name what exists, chains of superclasses end, and sizes are within the limits
 pub record IsSound (o : OriginView) : Type 0 where
   pub classes : AreListed o.superclasses
   pub chains : has_cycle o.superclasses ≡ false

@@ -8,11 +8,11 @@ use Rattle.msg_tables.specs.After.{of_class}
 use Rattle.msg_tables.specs.Chain.{is_present, descends, has_subclass}
 use Rattle.msg_tables.specs.Order.{present_count}
 
--- one of the list
+-- an element of the list
 abbrev pub is_in : ℕ → List ℕ → Bool
 is_in k ks = list_any (λ x. x == k) ks
 
--- each stands in the list once
+-- each element is in the list once
 abbrev pub AreOnce : List ℕ → Type 0
 AreOnce [] = Unit {0}
 AreOnce (k ∷ ks) = (is_in k ks ≡ false) × AreOnce ks
@@ -22,47 +22,47 @@ abbrev pub deeper : (ℕ → ℕ) → ℕ → List ℕ → List ℕ
 deeper depth d [] = []
 deeper depth d (k ∷ ks) = if nat_lt d (depth k) then k ∷ deeper depth d ks else []
 
--- how deep the first of a list is
+-- the depth of the first of a list
 abbrev pub first_depth : (ℕ → ℕ) → List ℕ → ℕ
 first_depth depth [] = 0
 first_depth depth (k ∷ ks) = depth k
 
--- of some classes, those below one are the deeper ones that come right after it
+-- of some classes, those below a class are the deeper ones that come right after it
 pub record IsFollowed (supers : List (Option Presence)) (depth : ℕ → ℕ) (all : List ℕ) (k : ℕ) (ks : List ℕ) : Type 0 where
   pub below : (j : ℕ) → is_in j all ≡ true → is_in j (k ∷ deeper depth (depth k) ks) ≡ descends supers (of_class k) (of_class j)
   pub once : is_in k ks ≡ false
   pub step : first_depth depth ks ≤ suc (depth k)
 
--- of each class of a list it is so, with those that come after it
+-- this holds for each class of a list, with those that come after it
 abbrev pub AreFollowed : List (Option Presence) → (ℕ → ℕ) → List ℕ → List ℕ → Type 0
 AreFollowed supers depth all [] = Unit {0}
 AreFollowed supers depth all (k ∷ ks) = IsFollowed supers depth all k ks × AreFollowed supers depth all ks
 
--- the class that comes next, where it is no root class
+-- the class that comes next, unless it is a root class
 abbrev pub next_in : (ℕ → ℕ) → List ℕ → Option ℕ
 next_in depth [] = None
 next_in depth (k ∷ ks) = if depth k == 0 then None else Some k
 
--- each class has the next one at hand
+-- the link of each class is to the next one
 abbrev pub AreLinked : (ℕ → ℕ) → (ℕ → Option ℕ) → List ℕ → Type 0
 AreLinked depth next [] = Unit {0}
 AreLinked depth next (k ∷ ks) = (next k ≡ next_in depth ks) × AreLinked depth next ks
 
--- how deep a class is, and which comes next
+-- the depth of a class, and the class that comes next
 abbrev pub depth_at : List ℕ → ℕ → ℕ
 depth_at depths k = slice_index_or depths k 0
 
 abbrev pub next_at : List (Option ℕ) → ℕ → Option ℕ
 next_at nexts k = slice_index_or nexts k None
 
--- the classes of a list stand in such an order, a root class first
+-- the classes of a list are in such an order, a root class first
 pub record IsPreorder (supers : List (Option Presence)) (depths : List ℕ) (nexts : List (Option ℕ)) (ks : List ℕ) : Type 0 where
   pub followed : AreFollowed supers (depth_at depths) ks ks
   pub linked : AreLinked (depth_at depths) (next_at nexts) ks
   pub root : first_depth (depth_at depths) ks ≡ 0
   pub shallow : (k : ℕ) → is_in k ks ≡ true → depth_at depths k < length ks
 
--- the classes that are present stand in such an order, each once
+-- the classes that are present are in such an order, each once
 pub record HavePreorder (supers : List (Option Presence)) (depths : List ℕ) (nexts : List (Option ℕ)) : Type 0 where
   pub classes : List ℕ
   pub is : IsPreorder supers depths nexts classes
@@ -80,7 +80,7 @@ abbrev pub nexts_with : List (Option ℕ) → ℕ → Option ℕ → List (Optio
 nexts_with nexts k None = slice_set nexts k None
 nexts_with nexts k (Some d) = slice_set (slice_set nexts k (next_at nexts d)) d (Some k)
 
--- a class that came right after its superclass is passed over
+-- a class that came right after its superclass is skipped
 pub record LeavesAfter (nexts : List (Option ℕ)) (k : ℕ) (superclass : Option ℕ) (left : List (Option ℕ)) : Type 0 where
   pub above : ℕ
   pub is : superclass ≡ Some above
@@ -89,26 +89,25 @@ pub record LeavesAfter (nexts : List (Option ℕ)) (k : ℕ) (superclass : Optio
 
 -- ---- what the program keeps of it
 
--- there is room for a class, and it is less deep than there may be classes
+-- there is room for a class, and its depth is less than the number of classes
 abbrev pub CanBeSuperclass : Preorder → ℕ → Type 0
 CanBeSuperclass p d = (d < length p.depths.items) × (d < length p.nexts.items) × (depth_at p.depths.items d < MAX_CLASSES)
 
--- a class is one of those that stand in such an order, of which there is room for as many as have
--- numbers
+-- a class is one of those in such an order, in which there is room for all classes with numbers
 abbrev pub CanBeGathered : Preorder → ℕ → ℕ → Type 0
 CanBeGathered p class room =
     (supers : List (Option Presence)) × HavePreorder supers p.depths.items p.nexts.items × (is_present supers class ≡ true) × (length supers ≤ room)
 
--- of whatever classes this is the order, a class that is present and those below it are these
+-- whatever classes are in this order, a class that is present and those below it are these
 abbrev pub AreAllBelow : Preorder → ℕ → List ℕ → Type 0
 AreAllBelow p class found = (supers : List (Option Presence)) → HavePreorder supers p.depths.items p.nexts.items → is_present supers class ≡ true
     → (k : ℕ) → is_in k found ≡ descends supers (of_class class) (of_class k)
 
--- a class is the first of these, each of which stands among them once
+-- a class is the first of these, each of which is among them once
 abbrev pub AreFirstAndOnce : ℕ → List ℕ → Type 0
 AreFirstAndOnce class found = AreOnce found × (rest : List ℕ) × (found ≡ class ∷ rest)
 
--- this is the order of classes of which one, below which none is, has left, with its superclass
+-- this is the order without a class that has no class below it, whose superclass is given
 pub record CanBeForgotten (p : Preorder) (k : ℕ) (superclass : Option ℕ) (supers : List (Option Presence)) : Type 0 where
   pub was : List (Option Presence)
   pub order : HavePreorder was p.depths.items p.nexts.items

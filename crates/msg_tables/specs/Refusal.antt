@@ -36,7 +36,7 @@ no_imp h i = lacks_imp h.origin.counts i
 unfoldable pub misfits : Log → ℕ → ℕ → Bool
 misfits h s i = misfits_in h.origin.counts s i
 
--- the same of a selector and an implementation themselves
+-- the same for the program's selector and implementation
 abbrev pub misfit : Log → Selector → ImpRef → Bool
 misfit h s i = misfits h (selector_number s) (imp_number i)
 
@@ -44,7 +44,7 @@ misfit h s i = misfits h (selector_number s) (imp_number i)
 unfoldable pub unlike : Log → ℕ → ℕ → Bool
 unlike h s u = unlike_in h.origin.counts s u
 
--- the same of selectors themselves
+-- the same for the program's selectors
 abbrev pub are_unlike : Log → Selector → Selector → Bool
 are_unlike h s u = unlike h (selector_number s) (selector_number u)
 
@@ -60,7 +60,7 @@ no_method h c s = is_none (holder h c s)
 abbrev pub no_selector : Log → Selector → Bool
 no_selector h s = are_unlike h s s
 
--- the class was listed as tables were opened, or has a class directly below it
+-- the class was listed when tables were opened, or has a class directly below it
 unfoldable pub is_in_use : Log → ℕ → Bool
 is_in_use h k = nat_lt k (length h.origin.superclasses) || has_subclass (table h).supers k
 
@@ -73,15 +73,15 @@ abbrev pub least_change_fault : List (Bool × ChangeFault) → Option ChangeFaul
 least_change_fault [] = None
 least_change_fault (f ∷ fs) = if f.0 then Some f.1 else least_change_fault fs
 
--- a method that could not stand at the class, whatever stands there
+-- a method that could not be at the class, whatever rows there are
 abbrev pub unfit : Log → ClassRef → Selector → ImpRef → List (Bool × ChangeFault)
 unfit h c s i = (no_class h c, NoClass) ∷ (no_imp h (imp_number i), NoImp) ∷ (misfits h (selector_number s) (imp_number i), ArgumentCount) ∷ []
 
--- methods of which one could not stand anywhere
+-- methods one of which could not be anywhere
 abbrev pub unfit_methods : Log → List (ℕ × ℕ) → List (Bool × ChangeFault)
 unfit_methods h methods = (list_any (λ m. no_imp h m.1) methods, NoImp) ∷ (list_any (λ m. misfits h m.0 m.1) methods, ArgumentCount) ∷ []
 
--- what speaks against a change, in the order of the faults
+-- the conditions under which a change is refused, in the order of the faults
 abbrev pub conditions : Log → Change → List (Bool × ChangeFault)
 conditions h (Add c s i) = unfit h c s i ++ (has_own h c (selector_number s), MethodPresent) ∷ (is_full h 1, Limit) ∷ []
 conditions h (Replace c s i) = unfit h c s i ++ (is_full h (if has_own h c (selector_number s) then 0 else 1), Limit) ∷ []

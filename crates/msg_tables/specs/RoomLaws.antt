@@ -1,4 +1,4 @@
--- What lists of changes need of memory, and their ways back.
+-- The memory that lists of changes and their ways back need.
 use Rattle.std.specs.Prelude.{◌≡◌, ◌<◌, ◌≤◌, ◌⊎◌, ℕ, Bool, true, false, List, [], ◌∷◌, length, slice_index_or, take}
 use Rattle.msg_names.specs.ClassRef.{slot_of}
 use Rattle.msg_names.specs.declared.value.ClassRef.{ClassRef}
@@ -9,7 +9,7 @@ use Rattle.msg_tables.specs.Undo.{undo_all}
 use Rattle.msg_tables.specs.declared.change.Change.{Change}
 use Rattle.msg_tables.specs.declared.change.Change.TheVariants.{SetImp, Exchange, AddClass, Remove}
 
--- so many rows of a class reference there is room for
+-- the number of rows of a class reference that there is room for
 abbrev pub room_in : List ℕ → ClassRef → ℕ
 room_in rooms c = slice_index_or rooms (slot_of c) 0
 
@@ -27,8 +27,8 @@ LackRoomFor rooms room h xs = (room < length (undo_all (table h) xs)) ⊎ ((c : 
 abbrev pub WayBackWritesNoMore : Type 0
 WayBackWritesNoMore = (h : Log) (xs : List Change) (k : ℕ) → IsMadeAt h xs → length (undo_all (table (and_all h xs)) (take k (undo_all (table h) xs))) ≤ length (undo_all (table h) xs)
 
--- So it wants no memory: where there is room for the rows that each class reference had at any time
--- while its list was made, and for as many entries, there is for it, as far as it is made.
+-- So it needs no memory: room for the rows that each class reference had at any time while its list
+-- was made, and for as many entries, is enough for it, as far as it is made.
 abbrev pub WayBackWantsNoMemory : Type 0
 WayBackWantsNoMemory = (h : Log) (xs : List Change) (rooms : List ℕ) (room k : ℕ) → IsMadeAt h xs → HaveRoomFor rooms h xs → length (undo_all (table h) xs) ≤ room
     → LackRoomFor rooms room (and_all h xs) (take k (undo_all (table h) xs)) → ⊥
@@ -43,7 +43,7 @@ adds_no_row (Remove c s) = true
 adds_no_row (AddClass k d) = true
 adds_no_row _ = false
 
--- where each class reference has room for its rows, and there is room for two entries, they want no
--- memory
+-- if each class reference has room for its rows and there is room for two entries, such changes
+-- need no memory
 abbrev pub NoRowWantsNoMemory : Type 0
 NoRowWantsNoMemory = (h : Log) (rooms : List ℕ) (room : ℕ) (x : Change) → adds_no_row x ≡ true → HaveRoomFor rooms h [] → 2 ≤ room → LackRoomFor rooms room h (x ∷ []) → ⊥

@@ -2,29 +2,24 @@
 use Rattle.std.specs.Prelude.{ℕ, ◌==◌, ◌&&◌, List, [], ◌∷◌, Bool, Option, Some, None, if◌then◌else◌, unwrap_or, is_some}
 use Rattle.msg_names.specs.declared.value.ClassRef.{ClassRef}
 use Rattle.msg_names.specs.ClassRef.{same_class}
+use Rattle.msg_rows.specs.RowList.{or_else}
 use Rattle.msg_tables.specs.Chain.{chain_of}
 use Rattle.msg_tables.specs.declared.presence.Presence.{Presence}
 
--- at a class reference a selector has an implementation, both by number
+-- a selector has an implementation at a class reference, both by number
 pub record Row : Type 0 where
   pub class : ClassRef
   pub sel : ℕ
   pub imp : ℕ
 
--- of each class number the class with its superclass, where it is present, and the rows, oldest
--- first
+-- for each class number the class with its superclass, if it is present, and the rows, oldest first
 pub record ClassTable : Type 0 where
   pub supers : List (Option Presence)
   pub rows : List Row
 
--- the row is one of this class reference and selector
+-- the row is of this class reference and selector
 abbrev pub is_at : ClassRef → ℕ → Row → Bool
 is_at c s r = same_class r.class c && (r.sel == s)
-
--- the later of two, if there is one
-abbrev pub or_else : Option ℕ → Option ℕ → Option ℕ
-or_else (Some i) o = Some i
-or_else None o = o
 
 -- the implementation in the own row of a class reference and a selector, which is the last of their
 -- rows
@@ -45,7 +40,7 @@ lookup_in rows (c ∷ cs) s = unwrap_or (own rows c s) (lookup_in rows cs s)
 abbrev pub chain : ClassTable → ClassRef → List ClassRef
 chain t c = chain_of t.supers c
 
--- the class reference at which the method that a lookup finds stands
+-- the class reference that has the method that a lookup finds
 abbrev pub holder_at : ClassTable → ClassRef → ℕ → Option ClassRef
 holder_at t c s = holder_in t.rows (chain t c) s
 

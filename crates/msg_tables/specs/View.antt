@@ -1,4 +1,4 @@
--- What contracts see of `Tables`.
+-- The contracts' view of `Tables`.
 use Rattle.std.specs.Prelude.{◌≡◌, ◌<◌, ◌≤◌, ◌+◌, ℕ, length, List, [], ◌∷◌, Option, Some, None, slice_index_or, true}
 use Rattle.std.specs.Option.{option_map_or}
 use Rattle.msg_names.specs.ClassRef.{slot_of}
@@ -9,26 +9,26 @@ use Rattle.msg_tables.specs.Chain.{is_present}
 use Rattle.msg_tables.specs.declared.presence.Presence.{Presence}
 use Rattle.msg_tables.specs.Origin.{CountsView, are_listed, last_imp}
 use Rattle.msg_tables.specs.declared.limits.Limits.{Limits}
-use Rattle.msg_tables.specs.RowList.{own_in}
+use Rattle.msg_rows.specs.RowList.{own_in}
 
--- what contracts see of tables
+-- the contracts' view of tables
 pub record TablesView : Type 0 where
-  -- of each class number the class with its superclass, where it is present
+  -- for each class number the class with its superclass, if it is present
   pub supers : List (Option Presence)
   -- the classes that are present, each after its superclass
   pub order : List ℕ
-  -- how many were listed as tables were opened
+  -- the number of classes that were listed when tables were opened
   pub listed : ℕ
   -- the rows of each class reference, at its place, oldest first
   pub lists : List (List (ℕ × ℕ))
-  -- and how many of them there is room for
+  -- the number of rows of each class reference that there is room for
   pub rooms : List ℕ
   pub counts : Option CountsView
   pub limits : Limits
   pub row_count : ℕ
   pub change_count : ℕ
 
--- the same tables, but for room
+-- the same tables, except for room
 abbrev pub IsKept : TablesView → TablesView → Type 0
 IsKept old new = new ≡ record old { rooms = new.rooms }
 
@@ -41,15 +41,15 @@ abbrev pub kept_method : List (List (ℕ × ℕ)) → List ClassRef → ℕ → 
 kept_method lists [] s = None
 kept_method lists (c ∷ cs) s = option_map_or (λ i. Some (c, i)) (own_in s (kept lists c)) (kept_method lists cs s)
 
--- how many rows of a class reference there is room for
+-- the number of rows of a class reference that there is room for
 abbrev pub room_of : TablesView → ClassRef → ℕ
 room_of t c = slice_index_or t.rooms (slot_of c) 0
 
--- a class reference has no room for so many rows more
+-- a class reference has no room for this number of further rows
 abbrev pub LacksRoom : TablesView → ClassRef → ℕ → Type 0
 LacksRoom t c n = room_of t c < length (kept t.lists c) + n
 
--- each has room for those that it has
+-- each class reference has room for the rows that it has
 abbrev pub IsWithinRoom : TablesView → Type 0
 IsWithinRoom t = (c : ClassRef) → length (kept t.lists c) ≤ room_of t c
 
@@ -61,6 +61,6 @@ own_of t c s = own_in (selector_number s) (kept t.lists c)
 abbrev pub HasClass : TablesView → ℕ → Type 0
 HasClass t k = is_present t.supers k ≡ true
 
--- each implementation of the methods is one that there is
+-- the implementations of the methods exist
 abbrev pub HaveListedImps : TablesView → List (ℕ × ℕ) → Type 0
 HaveListedImps t methods = are_listed (last_imp t.counts) methods ≡ true

@@ -1,4 +1,4 @@
--- What a change writes where, before it is made.
+-- What a change writes, and where, before it is made.
 use Rattle.std.specs.Prelude.{◌≡◌, ℕ, ◌<◌, ◌==◌, ◌&&◌, Bool, false, Option, Some, None, option_map, reverse, IfSome, if◌then◌else◌}
 use Rattle.msg_names.specs.declared.value.ClassRef.{ClassRef}
 use Rattle.msg_names.specs.declared.value.ImpRef.{ImpRef}
@@ -7,19 +7,19 @@ use Rattle.msg_names.specs.Number.{selector_number, imp_number}
 use Rattle.msg_tables.specs.declared.change.Change.{Change}
 use Rattle.msg_tables.specs.declared.change.Change.TheVariants.{Add, Replace, SetImp, Exchange, Attach, AddClass, Remove, DisposeClass}
 use Rattle.msg_names.specs.ClassRef.{same_class}
-use Rattle.msg_tables.specs.Rows.{or_else, own}
-use Rattle.msg_tables.specs.RowList.{own_in}
+use Rattle.msg_tables.specs.Rows.{own}
+use Rattle.msg_rows.specs.RowList.{or_else, own_in}
 use Rattle.msg_tables.specs.After.{of_class, of_meta, rows_after}
 use Rattle.msg_tables.specs.Log.{Log, and_then, lookup, holder, table}
 use Rattle.msg_tables.specs.Stands.{StandsAt}
 use Rattle.msg_tables.specs.View.{TablesView}
 
--- the implementation of a selector, where the method is written at this class reference
+-- the implementation of a selector, if the method is written at this class reference
 abbrev pub at_ref : Option ClassRef → ClassRef → ℕ → ℕ → ℕ → Option ℕ
 at_ref None d s u i = None
 at_ref (Some c) d s u i = if same_class c d && (s == u) then Some i else None
 
--- the same of selectors and an implementation themselves
+-- the same for the program's selectors and implementation
 abbrev pub imp_at_ref : Option ClassRef → ClassRef → Selector → Selector → ImpRef → Option ℕ
 imp_at_ref place here named sel imp = at_ref place here (selector_number named) (selector_number sel) (imp_number imp)
 
@@ -38,7 +38,7 @@ written h (AddClass k d) e u = None
 written h (Remove c s) d u = None
 written h (DisposeClass k) e u = None
 
--- the own row of a class reference and a selector leaves, where there is one
+-- a change removes the own row of a class reference and a selector, if there is one
 abbrev pub row_leaves : Change → ClassRef → ℕ → Bool
 row_leaves (Remove c s) d u = same_class c d && (selector_number s == u)
 row_leaves (DisposeClass k) d u = d.class == k
@@ -48,19 +48,19 @@ row_leaves _ d u = false
 abbrev pub IsWrittenAt : Log → Change → ClassRef → Selector → Option ImpRef → Type 0
 IsWrittenAt h x here s o = option_map imp_number o ≡ written h x here (selector_number s)
 
--- and at whatever log tables stand
+-- the same, at whatever log tables are
 abbrev pub IsWritten : TablesView → Change → ClassRef → Selector → Option ImpRef → Type 0
 IsWritten t x here s o = (h : Log) → StandsAt t h → IsWrittenAt h x here s o
 
--- the implementation that a class reference itself has for a selector once a change is made
+-- the implementation that a class reference itself has for a selector after a change is made
 abbrev pub IsOwnAfter : TablesView → Change → ClassRef → Selector → Option ImpRef → Type 0
 IsOwnAfter t x here s o = (h : Log) → StandsAt t h → option_map imp_number o ≡ own (rows_after (table h) x) here (selector_number s)
 
--- what a lookup finds once a change is made
+-- what a lookup finds after a change is made
 abbrev pub IsFoundAfter : TablesView → Change → ClassRef → Selector → ImpRef → Type 0
 IsFoundAfter t x c s i = (h : Log) → StandsAt t h → imp_number i ≡ lookup (and_then h x) c (selector_number s)
 
--- the classes at which a change's methods are sought are among the first n
+-- the classes at which a change looks for its methods are among the first n
 abbrev pub SeeksAmong : ℕ → Change → Type 0
 SeeksAmong n (Add c s i) = Unit {0}
 SeeksAmong n (Replace c s i) = Unit {0}

@@ -1,4 +1,4 @@
-//! Making changes.
+//! Makes changes.
 
 ghost use Rattle.std.specs.Prelude.{◌≡◌, ◌<◌, ◌≤◌, Option, Some, None, OnOk, OnErr, length, ◌+◌, [], ◌∷◌, slice_get, slice_set, true};
 ghost use Rattle.msg_tables.specs.Preorder.{is_in};
@@ -9,7 +9,7 @@ ghost use Rattle.msg_tables.specs.Edits.{EditLacksRoom, Fits, IsOfTables, IsOwn,
 ghost use Rattle.msg_tables.specs.Log.{Log};
 ghost use Rattle.msg_tables.specs.Journal.{IsImpOf, IsJournalOf, IsRemoved, TellAttached, TellBothRewritten, TellsDisposed, TellsRemoved, TellsRewritten, lists_rewritten};
 ghost use Rattle.msg_tables.specs.Refusal.{refusal};
-ghost use Rattle.msg_tables.specs.RowList.{HaveGrown};
+ghost use Rattle.msg_rows.specs.RowList.{HaveGrown};
 ghost use Rattle.msg_tables.specs.Stands.{StandsAt};
 ghost use Rattle.msg_tables.specs.View.{IsKept};
 
@@ -37,7 +37,7 @@ impl Tables {
         Ok(())
     }
 
-    // Rewrites an own row, and answers the implementation that it had.
+    // Rewrites an own row, and returns the implementation that it had.
     pub(crate) fn rewrite(&mut self, row: MethodRow) -> ImpRef
         requires { IsOwn self.old row }
         ensures writes { Writes self.old self.new (Edit.Rewrite row) }
@@ -94,7 +94,7 @@ impl Tables {
         self.supers[class as usize] = Some(Presence { superclass });
     }
 
-    // Takes an own row away, and answers what tells of it.
+    // Removes an own row, and returns the entry that describes it.
     pub(crate) fn remove(&mut self, class: ClassRef, sel: Selector) -> Entry
         requires { IsOfTables self.old (Edit.Remove class sel) }
         ensures writes { Writes self.old self.new (Edit.Remove class sel) }
@@ -113,9 +113,9 @@ impl Tables {
         }
     }
 
-    // Takes a class out that has none below it, whose rows are gone, and answers what tells of it.
-    // One that comes right after its superclass, as the class that was made last does, costs no
-    // more; else all classes are gone over.
+    // Removes a class that has no class below it and no rows, and returns the entry that describes
+    // it. If the class comes right after its superclass, as the last class that was made does, this
+    // is all it costs; else all classes are visited.
     pub(crate) fn unmake(&mut self, class: u32) -> Entry
         requires { IsOfTables self.old (Edit.Dispose class) }
         ensures value { self.new ≡ record self.old
@@ -136,8 +136,8 @@ impl Tables {
         }
     }
 
-    /// The fault for which the change would be refused, and none where it would be made. No memory
-    /// is taken.
+    /// Returns the fault for which the change would be refused, or none if it would be made. It
+    /// takes no memory.
     pub fn refusal(&self, change: &Change) -> Option<ChangeFault>
         ensures { (h : Log) → StandsAt self.now h → result ≡ refusal h change.now }
     {
@@ -145,7 +145,7 @@ impl Tables {
     }
 }
 
-// The place of a class in an order that has it. Those that were made last are found at once.
+// The place of a class in an order that has it. The classes that were made last are found at once.
 fn place_in(order: &[u32], class: u32) -> usize
     requires { is_in class order.now ≡ true }
     ensures { slice_get order.now result ≡ Some class }

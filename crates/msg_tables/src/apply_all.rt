@@ -1,4 +1,4 @@
-//! Making a list of changes as one.
+//! Makes a list of changes as one.
 
 ghost use Rattle.std.specs.Prelude.{◌≡◌, ◌≢◌, ◌<◌, ◌≤◌, ◌+◌, ◌*◌, [], All, IfErr, IfOk, IsErrOf, None, OnErr, OnOk, Some, length, take};
 ghost use Rattle.std.specs.Vec.{vec_capacity};
@@ -7,7 +7,7 @@ ghost use Rattle.msg_tables.specs.Accepts.{Accepts, Makes, Refuses};
 ghost use Rattle.msg_tables.specs.ChangeList.{change_of};
 ghost use Rattle.msg_tables.specs.Journal.{GoesBack, NamesListed, classes_of};
 ghost use Rattle.msg_tables.specs.Making.{AreHeld, AreMadeBefore, AreMadeTo, WantsMemory, WantsMore, HasPlaces, IsMade, IsReadPart, IsRefused, IsRefusedUnlessMemory, IsUndone, LacksMemory, StandAfter, TellsAll};
-ghost use Rattle.msg_tables.specs.RowList.{HaveGrown};
+ghost use Rattle.msg_rows.specs.RowList.{HaveGrown};
 ghost use Rattle.msg_tables.specs.Several.{made_by_all};
 ghost use Rattle.msg_tables.specs.View.{IsKept, IsWithinRoom};
 
@@ -17,8 +17,8 @@ use crate::entry::{Entry, Written};
 use crate::fault::ChangeFault;
 use crate::tables::Tables;
 
-/// Why a list of changes was not made: the place of the first that was refused, from 0, and its
-/// fault.
+/// Why a list of changes was not made: the place of the first change that was refused, from 0, and
+/// its fault.
 #[derive(Clone, Copy, Debug, PartialEq, Eq)]
 pub struct Refused {
     pub place: usize,
@@ -52,7 +52,7 @@ impl Tables {
         Ok(())
     }
 
-    // Makes changes one after another, as far as one that is refused.
+    // Makes changes one after another, up to the first that is refused.
     pub(crate) fn apply_each<L: ChangeList>(
         &mut self,
         changes: &L,
@@ -76,17 +76,18 @@ impl Tables {
         Ok(())
     }
 
-    /// Makes a list of changes as one, or says which would be refused and changes nothing.
+    /// Makes a list of changes as one. If a change would be refused, it returns which, and changes
+    /// nothing.
     ///
-    /// Each is judged and made after those before it. What they write is noted in the room that is
-    /// lent, in place of what was there, which is made larger where it is too small: one entry for
-    /// each row that is added, rewritten or removed, and for each class. Where one is refused, or
-    /// memory is wanting, those before it are taken back, from the last to the first; that takes no
-    /// memory, and goes over the rows of the lists that rows are taken from, for each of these
-    /// rows, and over all classes where one was made or disposed of.
+    /// Each change is judged and made after those before it. What the changes write is noted in
+    /// `written`, in place of what was there. It gets an entry for each row that is added,
+    /// rewritten or removed, and for each class, and it grows if it is too small. If a change is
+    /// refused or memory is lacking, the changes before it are taken back, from the last to the
+    /// first. Taking them back needs no memory. For each row that is removed it visits the rows of
+    /// that list, and for a class that was made or disposed of all classes.
     ///
-    /// Directly afterwards [`Written::way_back`] takes the list back. It writes as many entries, so
-    /// that the room of one that was as long serves it: it wants no memory.
+    /// [`Written::way_back`], made directly afterwards, takes the list back. It writes as many
+    /// entries, so the room of a `Written` that held the list is enough, and it needs no memory.
     pub fn apply_all<L: ChangeList>(
         &mut self,
         changes: &L,

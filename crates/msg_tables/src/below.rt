@@ -1,4 +1,4 @@
-//! The class references at and below one.
+//! A class reference and those below it.
 
 ghost use Rattle.std.specs.Prelude.{◌≡◌, ◌<◌, ◌≤◌, [], ℕ, IfOk, drop, length, true};
 ghost use Rattle.msg_tables.specs.Below.{AreBelow};
@@ -11,9 +11,10 @@ use msg_names::ClassRef;
 use std::alloc::{AllocError, Global};
 use std::marker::Model;
 
-/// The class references at and below one: some classes, and of each itself, its metaclass or both.
+/// A class reference and those below it: a set of classes, which stands for the classes, for their
+/// metaclasses or for both.
 ///
-/// The room for as many classes as an image has is taken when it is made.
+/// It allocates room for as many classes as an image has when it is made.
 #[derive(Drop)]
 pub struct Below {
     pub(crate) classes: Vec<u32>,
@@ -32,21 +33,21 @@ impl Model for Below {
 }
 
 impl Below {
-    /// The classes, each after its superclass where that is one of them.
+    /// The classes, each after its superclass if that is among them.
     pub fn classes(&self) -> &[u32]
         ensures { result.now ≡ self.now.classes }
     {
         &self.classes
     }
 
-    /// Whether the classes themselves are meant.
+    /// Whether the set stands for the classes themselves.
     pub fn has_classes(&self) -> bool
         ensures { result ≡ self.now.own }
     {
         self.own
     }
 
-    /// Whether their metaclasses are meant.
+    /// Whether the set stands for the metaclasses.
     pub fn has_metaclasses(&self) -> bool
         ensures { result ≡ self.now.meta }
     {
@@ -55,7 +56,7 @@ impl Below {
 }
 
 impl Tables {
-    /// Room for the class references below one, and none of them.
+    /// Makes room for the class references below one. The set is empty.
     pub fn room_below(&self, alloc: Global) -> Result<Below, AllocError>
         ensures room { IfOk result (λ b. length self.now.supers ≤ b.room) }
         ensures none { IfOk result (λ b. b.classes ≡ []) }
@@ -67,10 +68,10 @@ impl Tables {
         })
     }
 
-    /// Finds a class reference and all below it. Its own class comes first.
+    /// Finds a class reference and all below it. The class of the reference comes first.
     ///
-    /// Below a root class stand its metaclass and all metaclasses of its subclasses too. It looks
-    /// at the classes that it finds and at one more, and takes no memory.
+    /// A root class has its metaclass and all metaclasses of its subclasses below it too. The
+    /// search visits the classes that it finds and one more. It takes no memory.
     pub fn below(&self, class: ClassRef, below: &mut Below)
         requires class { class.class < length self.now.supers }
         requires room { length self.now.supers ≤ below.old.room }

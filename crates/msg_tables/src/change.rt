@@ -6,64 +6,64 @@ ghost use Rattle.msg_tables.specs.ChangeList.{change_of};
 use crate::methods::MethodList;
 use msg_names::{ClassRef, ImpRef, Selector};
 
-/// A change of the class tables, after the functions of the Objective-C Runtime Reference that are
-/// named at each.
+/// A change of the class tables. Each is modelled on the functions of the Objective-C Runtime
+/// Reference that its comment names.
 #[derive(Drop)]
 pub enum Change {
-    /// `class_addMethod`: refused where the class itself has the method.
+    /// `class_addMethod`: refused if the class itself has the method.
     Add {
         class: ClassRef,
         sel: Selector,
         imp: ImpRef,
     },
-    /// `class_replaceMethod`: adds the method where the class itself has none.
+    /// `class_replaceMethod`: adds the method if the class itself has none.
     Replace {
         class: ClassRef,
         sel: Selector,
         imp: ImpRef,
     },
-    /// `method_setImplementation` of the method that `class_getInstanceMethod` finds, which may
-    /// stand in a superclass.
+    /// `method_setImplementation` of the method that `class_getInstanceMethod` finds, which may be
+    /// in a superclass.
     SetImp {
         class: ClassRef,
         sel: Selector,
         imp: ImpRef,
     },
-    /// `method_exchangeImplementations` of two methods, each found alike.
+    /// `method_exchangeImplementations` of two methods, each found in the same way.
     Exchange {
         class: ClassRef,
         sel: Selector,
         other: ClassRef,
         other_sel: Selector,
     },
-    /// A category attached at run time: instance methods for the class, class methods for its
-    /// metaclass.
+    /// A category attached at run time: its instance methods go to the class, its class methods to
+    /// the metaclass.
     Attach {
         class: u32,
         methods: MethodList,
         class_methods: MethodList,
     },
     /// `objc_allocateClassPair` with `objc_registerClassPair`: makes a class and its metaclass,
-    /// without methods, under a class that is there.
+    /// without methods, below a class that is present.
     AddClass {
         class: u32,
         superclass: Option<u32>,
     },
-    /// `class_removeMethod` of the runtimes before Objective-C 2.0: the row that the class itself
-    /// has leaves, and one that it covered, as a category's covers that of its class, counts again.
-    /// Refused where the class itself has none.
+    /// `class_removeMethod` of the runtimes before Objective-C 2.0: removes the row that the class
+    /// itself has. A row that it covered counts again, as when a category covers a method of its
+    /// class. Refused if the class itself has no such row.
     Remove {
         class: ClassRef,
         sel: Selector,
     },
-    /// `objc_disposeClassPair`: a made class, below which is none, leaves with its metaclass and
-    /// the rows of both. It may be made again.
+    /// `objc_disposeClassPair`: removes a class that was made and has no class below it, with its
+    /// metaclass and the rows of both. The class may be made again.
     DisposeClass {
         class: u32,
     },
 }
 
-/// A change whose lists of methods stand elsewhere: one that is read.
+/// A change that is read, which borrows its lists of methods.
 #[derive(Clone, Copy)]
 pub enum ChangeRef<'c> {
     /// As [`Change::Add`].
@@ -111,7 +111,7 @@ pub enum ChangeRef<'c> {
     DisposeClass {
         class: u32,
     },
-    /// [`Change::Attach`] of one method, for a class or for its metaclass: it needs no list.
+    /// [`Change::Attach`] of one method, for a class or for its metaclass. It needs no list.
     Cover {
         class: ClassRef,
         sel: Selector,
@@ -120,7 +120,7 @@ pub enum ChangeRef<'c> {
 }
 
 impl Change {
-    /// The change, read.
+    /// The change as one that is read.
     #[inline(always)]
     pub fn by_ref(&self) -> ChangeRef<'_>
         ensures { change_of result ≡ self.now }

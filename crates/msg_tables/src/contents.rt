@@ -8,8 +8,8 @@ use crate::tables::Tables;
 use msg_names::{ClassRef, ImpRef, Selector};
 
 impl Tables {
-    /// The methods that a class reference has itself, oldest first: of those of one selector a
-    /// lookup finds the last.
+    /// The methods that a class reference has itself, oldest first. Of several methods with one
+    /// selector a lookup finds the last.
     pub fn methods(&self, class: ClassRef) -> &[(Selector, ImpRef)]
         requires class { class.class < length self.now.supers }
         ensures { AtLog self.now (λ h. HasMethods h class result.now) }

@@ -1,4 +1,4 @@
-//! How many arguments selectors and implementations take.
+//! The numbers of arguments that selectors and implementations take.
 
 ghost use Rattle.std.specs.Prelude.{◌≡◌, ◌-◌, IfOk, length, slice_get};
 ghost use Rattle.msg_names.specs.Number.{selector_number, imp_number};
@@ -9,7 +9,7 @@ use msg_names::{ImpRef, Selector};
 use std::alloc::AllocError;
 use std::marker::Model;
 
-/// How many arguments each selector and each implementation takes, from number 1.
+/// The number of arguments of each selector and of each implementation, from number 1.
 #[derive(Drop)]
 pub struct Counts {
     colons: Vec<u8>,
@@ -41,21 +41,21 @@ impl Counts {
         })
     }
 
-    // How many implementations there are.
+    // The number of implementations.
     fn imps(&self) -> usize
         ensures { result ≡ length self.now.args }
     {
         self.args.len()
     }
 
-    // How many arguments a selector takes, if there is one of its number.
+    // The number of arguments that a selector takes, if there is a selector with the number.
     fn colons(&self, sel: Selector) -> Option<u8>
         ensures { result ≡ slice_get self.now.colons (selector_number sel - 1) }
     {
         self.colons.get(sel.number() as usize - 1).copied()
     }
 
-    // How many arguments an implementation takes.
+    // The number of arguments that an implementation takes.
     fn args(&self, imp: ImpRef) -> Option<u8>
         ensures { result ≡ slice_get self.now.args (imp_number imp - 1) }
     {
@@ -65,7 +65,7 @@ impl Counts {
     }
 }
 
-// Two counts that aren't known to be one.
+// Whether two counts are not known to be equal.
 fn differ(a: Option<u8>, b: Option<u8>) -> bool
     ensures { result ≡ spec.differ a b }
 {

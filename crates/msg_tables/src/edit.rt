@@ -3,7 +3,7 @@
 use crate::methods::MethodList;
 use msg_names::{ClassRef, ImpRef, Selector};
 
-// A row: at the class reference the selector has the implementation.
+// A row, which says that a selector has an implementation at a class reference.
 #[derive(Clone, Copy)]
 pub(crate) struct MethodRow {
     pub(crate) class: ClassRef,
@@ -11,7 +11,7 @@ pub(crate) struct MethodRow {
     pub(crate) imp: ImpRef,
 }
 
-// What a change writes. An own row that is rewritten is there already.
+// What a change writes. An own row that is rewritten exists already.
 #[derive(Clone, Copy)]
 pub(crate) enum Edit<'c> {
     Append(MethodRow),

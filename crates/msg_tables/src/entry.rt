@@ -14,29 +14,29 @@ use std::marker::Model;
 /// One thing that a change of a list wrote: a row, or a class.
 #[derive(Clone, Copy, Debug, PartialEq, Eq)]
 pub enum Entry {
-    /// A row at the end of a class reference's.
+    /// A row was added at the end of the rows of a class reference.
     Added {
         class: ClassRef,
         sel: Selector,
     },
-    /// Another implementation in an own row. It had this one.
+    /// An own row, which had this implementation, got another.
     Rewrote {
         class: ClassRef,
         sel: Selector,
         imp: ImpRef,
     },
-    /// A row that stood at this place of a class reference's rows left.
+    /// A row was removed from this place of the rows of a class reference.
     Removed {
         class: ClassRef,
         sel: Selector,
         imp: ImpRef,
         place: usize,
     },
-    /// A class.
+    /// A class was made.
     Made {
         class: u32,
     },
-    /// A class that stood at this place of the order left.
+    /// A class was removed from this place of the order.
     Disposed {
         class: u32,
         superclass: Option<u32>,
@@ -45,8 +45,8 @@ pub enum Entry {
 }
 
 impl Entry {
-    /// The class reference at which rows were added or rewritten: what finds others lies at it and
-    /// below.
+    /// The class reference at which a row was added, rewritten or removed. Only lookups from it and
+    /// from those below it can find something else.
     pub fn place(self) -> Option<ClassRef>
         ensures place { result ≡ place_of self }
         ensures listed { (n : ℕ) → NamesListed n self → IfSome result (λ p. p.class < n) }
@@ -59,7 +59,7 @@ impl Entry {
         }
     }
 
-    /// The change that takes the entry back.
+    /// The change that undoes the entry.
     pub fn undo(self) -> ChangeRef<'static>
         ensures { change_of result ≡ undo_entry self }
     {
@@ -97,7 +97,7 @@ impl Model for Written {
 }
 
 impl Written {
-    /// Of no changes, with no room for more.
+    /// The record of no changes, without room for entries.
     pub fn none(alloc: Global) -> Written
         ensures { result.entries ≡ [] }
     {
@@ -106,7 +106,7 @@ impl Written {
         }
     }
 
-    /// Of no changes, with room for so many entries.
+    /// The record of no changes, with room for this number of entries.
     pub fn with_room(alloc: Global, entries: usize) -> Result<Written, AllocError>
         ensures none { IfOk result (λ w. w.entries ≡ []) }
         ensures room { IfOk result (λ w. entries ≤ w.room) }
@@ -116,8 +116,8 @@ impl Written {
         })
     }
 
-    /// The changes that take the list back directly after it, the last first. They are read from
-    /// what was written, so that no memory is wanted.
+    /// The changes that take the list back if they are made directly after it, the last first. They
+    /// are read from the entries, so they need no memory.
     pub fn way_back(&self) -> WayBack<'_>
         ensures { result ≡ undo_journal self.now.entries }
     {
@@ -134,7 +134,8 @@ impl Written {
     }
 }
 
-/// The changes that take a list back directly after it, one for each entry, the last first.
+/// The changes that take a list back if they are made directly after it: one for each entry, the
+/// last first.
 #[derive(Drop)]
 pub struct WayBack<'w> {
     entries: &'w [Entry],

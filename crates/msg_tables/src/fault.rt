@@ -7,18 +7,18 @@ ghost use Rattle.msg_tables.specs.declared.fault.ChangeFault.TheVariants.{Memory
 use std::alloc::AllocError;
 use thiserror::Error;
 
-/// Why a change was not made. Where several hold, the first is answered; memory is wanted only
-/// after all others were excluded.
+/// Why a change was not made. If several faults hold, the first is returned. Memory is needed only
+/// after all other faults were excluded.
 #[derive(Clone, Copy, Debug, PartialEq, Eq, Error)]
 pub enum ChangeFault {
-    /// No class that is present has the number, or is the superclass of one that is to be made.
+    /// The class, or the superclass of a class that is to be made, is not present.
     #[error("no class")]
     NoClass,
-    /// An implementation is forwarding, or none has the number.
+    /// An implementation is forwarding, or no implementation has the number.
     #[error("no implementation")]
     NoImp,
-    /// No selector has the number, or one takes another number of arguments than the
-    /// implementation, or than the other selector.
+    /// No selector has the number, or a selector takes another number of arguments than the
+    /// implementation or than the other selector.
     #[error("argument count")]
     ArgumentCount,
     /// The class itself has the method already.
@@ -27,16 +27,17 @@ pub enum ChangeFault {
     /// Neither the class nor a superclass has the method.
     #[error("no method")]
     NoMethod,
-    /// As many changes were accepted as may be, or more rows would stand than may.
+    /// As many changes were accepted as the limit allows, or there would be more rows than the
+    /// limit.
     #[error("limit")]
     Limit,
-    /// A growth was refused.
+    /// An allocation was refused.
     #[error("out of memory")]
     Memory,
     /// The class is present already.
     #[error("duplicate class")]
     DuplicateClass,
-    /// The class was listed as tables were opened, or has a class below it.
+    /// The class was listed when the tables were opened, or has a class below it.
     #[error("class in use")]
     ClassInUse,
 }

@@ -1,15 +1,15 @@
-//! What a lookup will find once a change is made.
+//! What a lookup will find after a change is made.
 //!
-//! The chain stays but for a class that is made or disposed of, and at each class reference what
-//! the change writes comes before the class's own method. So the answer is known before the change
-//! is made, and takes no memory.
+//! The chain stays the same, except for a class that is made or disposed of. At each class
+//! reference what the change writes comes before the class's own method. So the result is known
+//! before the change is made, and needs no memory.
 
 ghost use Rattle.std.specs.Prelude.{◌≡◌, ◌<◌, length, option_map, reverse, IfSome, true};
 ghost use Rattle.msg_names.specs.Number.{selector_number, imp_number};
 ghost use Rattle.msg_tables.specs.Log.{Log};
 ghost use Rattle.msg_tables.specs.After.{supers_after};
 ghost use Rattle.msg_tables.specs.Chain.{super_of, is_present};
-ghost use Rattle.msg_tables.specs.RowList.{own_in, without_row};
+ghost use Rattle.msg_rows.specs.RowList.{own_in, without_row};
 ghost use Rattle.msg_tables.specs.View.{kept};
 ghost use Rattle.msg_tables.specs.Written as spec;
 ghost use Rattle.msg_tables.specs.Written.{IsFoundAfter, IsOwnAfter, IsWritten, IsWrittenAt};
@@ -20,7 +20,7 @@ use crate::methods::MethodList;
 use crate::tables::Tables;
 use msg_names::{ClassRef, ImpRef, Selector};
 
-// The implementation of the first entry of a selector.
+// The implementation of the first entry with a selector.
 fn listed(methods: &MethodList, sel: Selector) -> Option<ImpRef>
     ensures { option_map imp_number result ≡ own_in (selector_number sel) (reverse methods.now) }
 {
@@ -33,8 +33,7 @@ fn listed(methods: &MethodList, sel: Selector) -> Option<ImpRef>
     None
 }
 
-// The implementation, where the method of a class reference and a selector that is written is the
-// one that is sought.
+// The implementation, if the written class reference and selector are the ones that are looked for.
 fn at_ref(
     place: Option<ClassRef>,
     here: ClassRef,
@@ -87,7 +86,7 @@ fn written(tables: &Tables, change: &Change, here: ClassRef, sel: Selector) -> O
     }
 }
 
-// Whether the class will be present.
+// Whether the class will be present after the change.
 fn is_present_after(tables: &Tables, change: &Change, here: ClassRef) -> bool
     requires { here.class < length tables.now.supers }
     ensures { result ≡ is_present (supers_after tables.now.supers change.now) here.class }
@@ -99,7 +98,7 @@ fn is_present_after(tables: &Tables, change: &Change, here: ClassRef) -> bool
     }
 }
 
-// What will stand above a class reference.
+// The class reference that will be above this one.
 fn above_after(tables: &Tables, change: &Change, here: ClassRef) -> Option<ClassRef>
     requires here { here.class < length tables.now.supers }
     requires listed { SeeksAmong (length tables.now.supers) change.now }
@@ -157,7 +156,7 @@ fn exchanged(
     at_ref(second, here, other_sel, sel, tables.lookup(class, named))
 }
 
-// Whether the own row of a class reference and a selector leaves.
+// Whether the change removes the own row of a class reference and a selector.
 fn row_leaves(change: &Change, here: ClassRef, sel: Selector) -> bool
     ensures { result ≡ spec.row_leaves change.now here (selector_number sel) }
 {
@@ -168,7 +167,8 @@ fn row_leaves(change: &Change, here: ClassRef, sel: Selector) -> bool
     }
 }
 
-// The implementation that a class reference itself will have for a selector whose own row leaves.
+// The implementation that a class reference itself will have for a selector whose own row is
+// removed.
 fn own_left(tables: &Tables, change: &Change, here: ClassRef, sel: Selector) -> Option<ImpRef>
     requires here { here.class < length tables.now.supers }
     requires leaves { spec.row_leaves change.now here (selector_number sel) ≡ true }
@@ -195,8 +195,8 @@ fn own_after(tables: &Tables, change: &Change, here: ClassRef, sel: Selector) ->
     }
 }
 
-// The implementation that a lookup will find which begins at a class that will be present.
-// `classes` is how many there are.
+// The implementation that a lookup will find if it begins at a class that will be present.
+// `classes` is the number of classes.
 fn found_from(
     tables: &Tables,
     classes: usize,
@@ -227,8 +227,8 @@ fn found_from(
 }
 
 impl Tables {
-    // The implementation that the class reference itself would have for a selector, were its own
-    // row taken away.
+    // The implementation that the class reference itself would have for a selector without its own
+    // row.
     fn covered(&self, class: ClassRef, sel: Selector) -> Option<ImpRef>
         requires { class.class < length self.now.supers }
         ensures { option_map imp_number result
@@ -237,11 +237,11 @@ impl Tables {
         self.lists.covered(class.slot(), sel)
     }
 
-    /// The implementation that [`Tables::lookup`] will find once a change is made, which is of
-    /// listed classes.
+    /// Returns the implementation that [`Tables::lookup`] will find after a change is made. The
+    /// class and the classes of the change have numbers.
     ///
-    /// Each class on the way costs a search in its own methods and, where the change names methods
-    /// by `SetImp` or `Exchange`, a lookup of those. No memory is taken.
+    /// Each class on the way costs a search in its own methods. If the change names methods by
+    /// `SetImp` or `Exchange`, it also costs a lookup of those. No memory is taken.
     pub fn lookup_after(&self, change: &Change, class: ClassRef, sel: Selector) -> ImpRef
         requires class { class.class < length self.now.supers }
         requires listed { SeeksAmong (length self.now.supers) change.now }

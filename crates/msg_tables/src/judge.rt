@@ -1,5 +1,5 @@
-//! Judging changes: each fault is a test of its own, they come in their order, and a method is
-//! looked up once: the edit that is answered says where it stands.
+//! Judges changes. Each fault is a test of its own, and the tests come in the order of the faults.
+//! Each method is looked up once: the edit that is returned says where the method is.
 
 ghost use Rattle.std.specs.Prelude.{◌≡◌, ◌<◌, ◌≤◌, ◌||◌, length, false, true, not, IfOk, IfSome, IsSome, None};
 ghost use Rattle.msg_names.specs.Number.{selector_number, imp_number};
@@ -31,7 +31,7 @@ fn row(class: ClassRef, sel: Selector, imp: ImpRef) -> MethodRow
     MethodRow { class, sel, imp }
 }
 
-// A class has this superclass.
+// Whether a class has this superclass.
 fn is_directly_below(class: u32, presence: Option<Presence>) -> bool
     ensures { result ≡ spec_below class presence }
 {
@@ -41,7 +41,7 @@ fn is_directly_below(class: u32, presence: Option<Presence>) -> bool
     }
 }
 
-// Some class that is present stands directly below one. All are gone over.
+// Whether some class that is present is directly below this one. It visits all classes.
 fn has_subclass(supers: &[Option<Presence>], class: u32) -> bool
     ensures { result ≡ below.has_subclass supers.now class }
 {
@@ -51,7 +51,7 @@ fn has_subclass(supers: &[Option<Presence>], class: u32) -> bool
 }
 
 impl Tables {
-    // No class that is present has this number.
+    // Whether no class that is present has this number.
     fn lacks(&self, class: u32) -> bool
         ensures present { result ≡ not (is_present self.now.supers class) }
         ensures listed { result ≡ false → class < length self.now.supers }
@@ -70,7 +70,7 @@ impl Tables {
         self.lacks(class.class)
     }
 
-    // No class can be made with this number.
+    // Whether no class can be made with this number.
     fn no_number(&self, class: u32) -> bool
         ensures meaning { AtLog self.now (λ h. result ≡ spec.no_number h class) }
         ensures listed { result ≡ false → class < length self.now.supers }
@@ -78,7 +78,7 @@ impl Tables {
         self.supers.len() <= class as usize
     }
 
-    // The superclass that is named isn't present.
+    // Whether the superclass that is named isn't present.
     fn no_superclass(&self, superclass: Option<u32>) -> bool
         ensures meaning { AtLog self.now (λ h. result ≡ spec.no_superclass h superclass) }
         ensures present { result ≡ false → IfSome superclass (HasClass self.now) }
@@ -118,7 +118,7 @@ impl Tables {
         self.own(class, sel).is_some()
     }
 
-    // Whether there is no room for so many more rows, or for one more change.
+    // Whether there is no room for this number of further rows, or for one more change.
     fn is_full(&self, more: usize) -> bool
         ensures meaning { AtLog self.now (λ h. result ≡ spec.is_full h more) }
         ensures room { result ≡ false → HasRoomFor self.now more }
@@ -126,7 +126,7 @@ impl Tables {
         self.change_count >= self.limits.changes || more as u64 > self.limits.rows - self.row_count
     }
 
-    // Why the row could not stand, whatever stands there.
+    // Why the row could not be there, whatever rows there are.
     #[inline(always)]
     fn unfit(&self, row: MethodRow) -> Option<ChangeFault>
         ensures meaning { AtLog self.now (λ h. result ≡ fault_of_row h row) }
@@ -285,7 +285,7 @@ impl Tables {
         self.any_misfits(own) || self.any_misfits(meta)
     }
 
-    // Why the methods could not be attached, whatever stands there.
+    // Why the methods could not be attached, whatever rows there are.
     fn unfit_methods(&self, methods: &MethodList, class_methods: &MethodList) -> Option<ChangeFault>
         ensures meaning { AtLog self.now (λ h. result ≡ fault_of_methods h methods.now class_methods.now) }
         ensures methods { result ≡ None → HaveListedImps self.now methods.now }
@@ -376,7 +376,7 @@ impl Tables {
         Ok(Edit::Remove(class, sel))
     }
 
-    // The class was listed as tables were opened, or has a class below it.
+    // Whether the class was listed when the tables were opened, or has a class below it.
     fn is_in_use(&self, class: u32) -> bool
         requires { is_present self.now.supers class ≡ true }
         ensures meaning { AtLog self.now (λ h. result ≡ spec.is_in_use h class) }
@@ -423,7 +423,7 @@ impl Tables {
         Ok(Edit::Append(row))
     }
 
-    // What the change would write, or the least fault for which it is refused.
+    // Returns what the change would write, or the least fault for which it is refused.
     #[inline(always)]
     pub(crate) fn judge<'c>(&self, change: ChangeRef<'c>) -> Result<Edit<'c>, ChangeFault>
         ensures meaning { IsJudged self.now (change_of change.entry) result }

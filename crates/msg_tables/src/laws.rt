@@ -16,38 +16,39 @@ ghost use Rattle.msg_tables.specs.Stands.{StandsAt};
 ghost use Rattle.msg_tables.specs.View.{TablesView};
 ghost use Rattle.msg_tables.specs.declared.change.Change.{Change};
 
-/// A class reference that an accepted change doesn't affect finds what it found.
+/// A class reference that an accepted change doesn't affect finds what it found before.
 pub fn a_change_affects_no_more()
     ensures { ChangeAffectsNoMore }
 {}
 
-/// What a log of accepted changes begins with is one, too: each earlier point of a log is a log.
+/// What a log of accepted changes begins with is such a log too: each earlier point of a log is a
+/// log.
 pub fn an_earlier_point_is_a_log()
     ensures { (h g : Log) → BeginsWith h g → IsLog h → IsLog g }
 {}
 
-/// A change is accepted after fewer others than the limit says.
+/// A change is accepted only after fewer changes than the limit.
 pub fn an_accepted_change_is_within_the_limit()
     ensures { (h : Log) (x : Change) → refusal h x ≡ None → length h.changes < h.origin.limits.changes }
 {}
 
-/// What a lookup finds is an implementation that there is, or forwarding.
+/// A lookup finds an implementation that exists, or forwarding.
 pub fn a_found_implementation_is_listed()
     ensures { (h : Log) (c : ClassRef) (s : ℕ) → IsSound h.origin → IsLog h → lookup h c s ≤ last_imp h.origin.counts }
 {}
 
-/// Tables have as many classes as the origin of the log at which they stand, and its counts.
+/// Tables have as many classes as the origin of their log, and the same counts.
 pub fn tables_are_of_their_origin()
     ensures classes { (tables : TablesView) (h : Log) → StandsAt tables h → HasClassesOf h.origin tables }
     ensures counts { (tables : TablesView) (h : Log) → StandsAt tables h → tables.counts ≡ h.origin.counts }
 {}
 
-/// Before a class is made its lookups, and those of its metaclass, answer forwarding.
+/// Before a class is made, lookups from it and from its metaclass return forwarding.
 pub fn a_class_that_is_not_made_forwards()
     ensures { (h : Log) (c : ClassRef) (s : ℕ) → no_class h c ≡ true → lookup h c s ≡ 0 }
 {}
 
-/// Making a class changes no lookup but its own and its metaclass's.
+/// Making a class changes no lookups except those from it and from its metaclass.
 pub fn a_made_class_changes_no_other()
     ensures { MadeClassChangesNoOther }
 {}
@@ -62,22 +63,22 @@ pub fn a_chain_ends_at_a_root_class()
     ensures { ChainEndsAtRoot }
 {}
 
-/// A listed class is as deep in its chain as its superclasses say, whatever was changed.
+/// The depth of a listed class in its chain follows from its superclasses, whatever was changed.
 pub fn a_listed_class_is_as_deep_as_it_was()
     ensures { ListedClassIsAsDeep }
 {}
 
-/// Where no method is found the answer is forwarding.
+/// If no method is found, the result is forwarding.
 pub fn no_method_forwards()
     ensures { (h : Log) (c : ClassRef) (s : ℕ) → holder h c s ≡ None → lookup h c s ≡ 0 }
 {}
 
-/// Two class references that find a method at one place find the same implementation.
+/// Two class references that find a method at the same place find the same implementation.
 pub fn one_method_is_one_implementation()
     ensures { OneMethodIsOneImplementation }
 {}
 
-/// What a class doesn't have it inherits.
+/// A class inherits the methods that it doesn't have itself.
 pub fn a_class_inherits()
     ensures { ClassInherits }
 {}
@@ -97,30 +98,31 @@ pub fn a_replaced_method_is_found()
     ensures { ReplacedMethodIsFound }
 {}
 
-/// A method that is set anew is seen by all that find it there.
+/// All class references that find a method at a place find the implementation that is set there.
 pub fn a_set_method_is_seen_below()
     ensures { SetMethodIsSeenBelow }
 {}
 
-/// So are two methods that were exchanged.
+/// The same holds for two methods that were exchanged.
 pub fn exchanged_methods_are_seen_below()
     ensures first { SecondIsSeenBelowFirst }
     ensures second { FirstIsSeenBelowSecond }
 {}
 
-/// A method that is exchanged with itself stays.
+/// A method that is exchanged with itself stays the same.
 pub fn one_method_exchanged_is_unchanged()
     ensures { OneMethodExchangedIsUnchanged }
 {}
 
-/// Of attached methods of one selector the earlier is found, whatever the class had.
+/// Of attached methods with one selector the earlier is found, whatever the class had.
 pub fn an_attached_method_is_found()
     ensures class { AttachedMethodIsFound }
     ensures metaclass { AttachedClassMethodIsFound }
 {}
 
-/// Of the method lists of a class reference with a method of a selector the one that is attached
-/// last wins: a category's over the class's. Later lists without such a method change nothing.
+/// Among the method lists of a class reference that have a method with a selector, the list that is
+/// attached last wins: a category's over the class's. Later lists without such a method change
+/// nothing.
 pub fn the_last_list_wins()
     ensures { LastListWins }
 {}

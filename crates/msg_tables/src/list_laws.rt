@@ -14,8 +14,8 @@ ghost use Rattle.msg_tables.specs.declared.change.Change.{Change};
 
 use crate::limits::{MAX_CLASSES, MAX_IMP, MOST_CHANGES, MOST_SENDERS, MOST_WORDS};
 
-/// What a history of accepted changes begins with is one, too: each earlier point of a history is a
-/// history.
+/// What a history of accepted changes begins with is such a history too: each earlier point of a
+/// history is a history.
 pub fn an_earlier_point_is_a_history()
     ensures { (h g : History) → BeginsWith h g → IsLog (log h) → IsLog (log g) }
 {}
@@ -29,18 +29,18 @@ pub fn the_limits_are_these()
     ensures words { MOST_WORDS ≡ 268435456 }
 {}
 
-/// The tables after a change are those after its parts, one after another.
+/// The tables after a change are the tables after its parts, made one after another.
 pub fn parts_come_one_after_another()
     ensures { (h : Log) (xs : List Change) → table (and_all h xs) ≡ table_after_all (table h) xs }
 {}
 
-/// A change of parts is accepted just where they would be, one after another.
+/// A change with parts is accepted exactly if the parts would be, one after another.
 pub fn parts_are_accepted_one_after_another()
     ensures accepted { AcceptedWhereNoneIsRefused }
     ensures all { NoneIsRefusedWhereAccepted }
 {}
 
-/// The part that is named is the first that would be refused, for that fault.
+/// The part that is named is the first that would be refused, and the fault is its fault.
 pub fn a_refused_part_is_the_first()
     ensures { RefusedIsFirst }
 {}
@@ -50,61 +50,62 @@ pub fn one_part_is_refused_as_itself()
     ensures { OneIsRefusedAsItself }
 {}
 
-/// A class reference that an accepted change affects in no part finds what it found.
+/// A class reference that no part of an accepted change affects finds what it found before.
 pub fn a_change_of_parts_affects_no_more()
     ensures { ListAffectsNoMore }
 {}
 
-/// What stands below a class reference stays there while parts are made, unless its class is
-/// disposed of: what a part affects can be sought once all are made.
+/// What is below a class reference stays there while parts are made, unless its class is disposed
+/// of. So what a part affects can be found after all are made.
 pub fn what_is_below_stays_below()
     ensures { WhatIsBelowStays }
 {}
 
-/// What some change of a list affects is, once all are made, of a class that was made or disposed
-/// of, or is a class reference at which one wrote, or below one.
+/// Consider a class reference that some change of a list affects. After all changes are made, it
+/// belongs to a class that was made or disposed of, or it is or is below a class reference at which
+/// one wrote.
 pub fn what_is_affected_is_at_its_places()
     ensures { AffectedIsAtItsPlaces }
 {}
 
-/// Every accepted list has a way back: accepted directly afterwards, as long as so many changes
-/// are, it brings back each lookup.
+/// Every accepted list has a way back. It is accepted directly afterwards, as long as that many
+/// changes are, and it restores each lookup.
 pub fn every_list_has_a_way_back()
     ensures { EveryListHasWayBack }
 {}
 
-/// Directly after a list its way back is accepted, as long as so many changes are.
+/// Directly after a list its way back is accepted, as long as that many changes are.
 pub fn a_way_back_is_accepted()
     ensures { WayBackIsAccepted }
 {}
 
-/// A way back brings back each lookup, and the tables but for the order of rows that no lookup
-/// compares.
+/// A way back restores each lookup. It restores the tables too, except for the order of rows that
+/// no lookup compares.
 pub fn a_way_back_brings_back_each_lookup()
     ensures lookups { WayBackBringsBackEachLookup }
     ensures tables { WayBackBringsBackTheTables }
 {}
 
-/// A list and its way back reach the same class references.
+/// A list and its way back affect the same class references.
 pub fn what_a_list_and_its_way_back_reach_is_the_same()
     ensures { ListAndWayBackReachTheSame }
 {}
 
-/// A way back holds no more rows at any time than its list did, in each class reference: where
-/// there was room for the list's there is for its own.
+/// In each class reference a way back never has more rows than its list had at some time. So the
+/// room that was enough for the list is enough for its way back.
 pub fn a_way_back_holds_no_more_rows()
     ensures { WayBackHoldsNoMore }
 {}
 
-/// A way back writes no more entries than its list did, and wants no memory: where there is as much
-/// room as `Tables::apply_all` left (`held`, `room`), there is enough for it (`wanting`).
+/// A way back writes no more entries than its list did, and needs no memory: the room that
+/// `Tables::apply_all` left (`held`, `room`) is enough for it (`wanting`).
 pub fn a_way_back_wants_no_memory()
     ensures entries { WayBackWritesNoMore }
     ensures memory { WayBackWantsNoMemory }
 {}
 
-/// A method that is set or removed, an exchange, and a class that is made add no row. They want no
-/// memory if each class reference has room for its rows and there is room for two entries.
+/// Setting or removing a method, an exchange, and making a class add no row. They need no memory if
+/// each class reference has room for its rows and there is room for two entries.
 pub fn a_change_that_adds_no_row_wants_no_memory()
     ensures { NoRowWantsNoMemory }
 {}

@@ -1,4 +1,4 @@
-//! Marks on class references, and the descendants of one.
+//! Marks on class references, and the class references below one.
 
 ghost use Rattle.std.specs.Prelude.{◌≡◌, ◌==◌, ◌<◌, ◌≤◌, ◌+◌, ◌*◌, IfOk, ℕ, length, count_by, replicate, false, true};
 ghost use Rattle.msg_names.specs.ClassRef.{slot_of};
@@ -12,10 +12,9 @@ use msg_names::ClassRef;
 use std::alloc::{AllocError, Global};
 use std::marker::Model;
 
-/// Which class references of an image are marked.
+/// A mark for each class reference of an image.
 ///
-/// The room for what is found while descendants are sought is made with the marks, so that none is
-/// taken later.
+/// The room for the search of descendants is made with the marks, so that none is taken later.
 #[derive(Drop)]
 pub struct Marks {
     pub(crate) marked: Vec<bool>,
@@ -43,15 +42,15 @@ impl Marks {
         self.marked[class.slot()]
     }
 
-    /// How many class references are marked, classes and metaclasses together. Each place is looked
-    /// at.
+    /// The number of marked class references, classes and metaclasses together. Each place is
+    /// visited.
     pub fn count(&self) -> usize
         ensures { result ≡ count_by (λ mark. mark) self.now }
     {
         self.marked.iter().filter(|mark| **mark).count()
     }
 
-    /// Takes all marks away.
+    /// Removes all marks.
     pub fn clear(&mut self)
         ensures { self.new ≡ replicate (length self.old) false }
     {
@@ -79,7 +78,7 @@ pub(crate) fn mark_made(marked: &mut [bool], class: u32)
     mark_class(marked, class, true, true);
 }
 
-// Marks class references beside those that are marked.
+// Marks class references in addition to those that are marked.
 fn mark_each(marked: &mut [bool], below: &Below)
     requires { (k : ℕ) → is_in k below.now.classes ≡ true → 2 * k + 1 < length marked.old }
     ensures marks { MarksThose (covers below.now) marked.old marked.new }
@@ -91,7 +90,7 @@ fn mark_each(marked: &mut [bool], below: &Below)
 }
 
 impl Tables {
-    /// Marks for the class references of these tables' image, none of them marked.
+    /// Makes marks for the class references of these tables' image. None is marked.
     pub fn marks(&self, alloc: Global) -> Result<Marks, AllocError>
         ensures { IfOk result (λ marks. marks ≡ replicate (2 * length self.now.supers) false) }
     {
@@ -101,7 +100,7 @@ impl Tables {
         })
     }
 
-    // Marks a class reference and all below it, beside those that are marked.
+    // Marks a class reference and all below it, in addition to those that are marked.
     pub(crate) fn mark_below(&self, class: ClassRef, marked: &mut [bool], below: &mut Below)
         requires class { class.class < length self.now.supers }
         requires marks { length marked.old ≡ 2 * length self.now.supers }
@@ -114,10 +113,10 @@ impl Tables {
         mark_each(marked, below);
     }
 
-    /// Marks a class reference and all below it, beside those that are marked.
+    /// Marks a class reference and all below it, in addition to those that are marked.
     ///
-    /// Below a root class stand its metaclass and all metaclasses of its subclasses too. It looks
-    /// at the classes that it marks and at one more, and takes no memory.
+    /// A root class has its metaclass and all metaclasses of its subclasses below it too. The
+    /// search visits the classes that it marks and one more. It takes no memory.
     pub fn descendants(&self, class: ClassRef, marks: &mut Marks)
         requires class { class.class < length self.now.supers }
         requires marks { length marks.old ≡ 2 * length self.now.supers }

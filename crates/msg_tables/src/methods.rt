@@ -14,7 +14,7 @@ pub struct MethodList {
 
 impl Model for MethodList {
     ghost use Rattle.std.specs.Prelude.{ℕ, List};
-    ghost use Rattle.msg_tables.specs.Methods.{method_numbers};
+    ghost use Rattle.msg_rows.specs.Methods.{method_numbers};
 
     ghost Value = { List (ℕ × ℕ) };
 
@@ -23,7 +23,7 @@ impl Model for MethodList {
 
 impl MethodList {
     ghost use Rattle.std.specs.Prelude.{◌≡◌};
-    ghost use Rattle.msg_tables.specs.Methods.{method_numbers};
+    ghost use Rattle.msg_rows.specs.Methods.{method_numbers};
 
     pub fn new(pairs: Vec<(Selector, ImpRef)>) -> Self
         ensures { result ≡ method_numbers pairs.items }

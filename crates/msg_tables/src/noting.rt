@@ -1,15 +1,15 @@
-//! Making changes and noting what they write, so that it can be taken back.
+//! Makes changes and notes what they write, so that it can be taken back.
 
 ghost use Rattle.std.specs.Prelude.{◌≡◌, ◌<◌, ◌≤◌, ◌+◌, [], ◌∷◌, ◌++◌, OnOk, OnErr, length, option_map, reverse};
 ghost use Rattle.std.specs.Vec.{vec_capacity};
 ghost use Rattle.msg_tables.specs.declared.edit.Edit.TheVariants.{Append, Attach, Dispose, Make, Remove, Rewrite, RewriteBoth};
-ghost use Rattle.msg_tables.specs.Methods.{method_numbers};
+ghost use Rattle.msg_rows.specs.Methods.{method_numbers};
 ghost use Rattle.msg_tables.specs.declared.edit.MethodRow.{MethodRow};
 ghost use Rattle.msg_tables.specs.declared.entry.Entry.{Entry};
 ghost use Rattle.msg_names.specs.Number.{selector_number};
 ghost use Rattle.msg_tables.specs.Edits.{EditLacksRoom, Fits, IsOfTables, IsOwn};
 ghost use Rattle.msg_tables.specs.Journal.{added_all, entry_count, IsAttachNoted, IsNoted, TakesRows};
-ghost use Rattle.msg_tables.specs.RowList.{HaveGrown, last_row};
+ghost use Rattle.msg_rows.specs.RowList.{HaveGrown, last_row};
 ghost use Rattle.msg_tables.specs.View.{IsKept, kept};
 
 use crate::edit::{Edit, MethodRow};
@@ -19,7 +19,7 @@ use crate::tables::Tables;
 use msg_names::{ClassRef, ImpRef, Selector};
 use std::alloc::AllocError;
 
-// One more entry, for which there is room.
+// Notes one more entry, for which there is room.
 #[inline(always)]
 fn note(journal: &mut Vec<Entry>, entry: Entry)
     requires { length journal.old.items < vec_capacity journal.old }
@@ -30,7 +30,7 @@ fn note(journal: &mut Vec<Entry>, entry: Entry)
     pushed.unwrap();
 }
 
-// A row that was rewritten, with the implementation that it had.
+// Notes a row that was rewritten, with the implementation that it had.
 #[inline(always)]
 fn note_rewritten(journal: &mut Vec<Entry>, row: MethodRow, was: ImpRef)
     requires { length journal.old.items < vec_capacity journal.old }
@@ -45,7 +45,7 @@ fn note_rewritten(journal: &mut Vec<Entry>, row: MethodRow, was: ImpRef)
     note(journal, rewrote);
 }
 
-// A row that was added.
+// Notes a row that was added.
 #[inline(always)]
 fn note_row(journal: &mut Vec<Entry>, class: ClassRef, sel: Selector)
     requires { length journal.old.items < vec_capacity journal.old }
@@ -55,7 +55,7 @@ fn note_row(journal: &mut Vec<Entry>, class: ClassRef, sel: Selector)
     note(journal, Entry::Added { class, sel });
 }
 
-// Rows that were added, from the last entry to the first.
+// Notes rows that were added, from the last entry to the first.
 fn note_added(journal: &mut Vec<Entry>, class: ClassRef, methods: &[(Selector, ImpRef)])
     requires { length journal.old.items + length methods.now ≤ vec_capacity journal.old }
     ensures items { journal.new.items ≡ journal.old.items ++ added_all class (reverse (method_numbers methods.now)) }
@@ -67,7 +67,7 @@ fn note_added(journal: &mut Vec<Entry>, class: ClassRef, methods: &[(Selector, I
 }
 
 impl Tables {
-    // How many entries tell of an edit.
+    // The number of entries that describe an edit.
     pub(crate) fn entry_count(&self, edit: &Edit) -> usize
         ensures { result ≡ entry_count self.now edit.now }
     {
@@ -103,7 +103,7 @@ impl Tables {
         note(journal, removed);
     }
 
-    // Takes the rows of a class reference away, the last first, and notes them.
+    // Removes the rows of a class reference, the last first, and notes them.
     fn empty_noted(&mut self, class: ClassRef, journal: &mut Vec<Entry>)
         requires class { class.class < length self.old.supers }
         requires room { length journal.old.items + length (kept self.old.lists class) ≤ vec_capacity journal.old }
@@ -117,8 +117,8 @@ impl Tables {
         }
     }
 
-    // Its metaclass's rows leave first, so that what takes them back begins with its own, the
-    // oldest first.
+    // The rows of the metaclass are removed first, so that their way back begins with the class's
+    // own rows, the oldest first.
     fn dispose_noted(&mut self, class: u32, journal: &mut Vec<Entry>)
         requires leaf { IsOfTables self.old (Dispose class) }
         requires room { length journal.old.items + entry_count self.old (Dispose class) ≤ vec_capacity journal.old }
@@ -203,7 +203,7 @@ impl Tables {
         note(journal, Entry::Made { class });
     }
 
-    // Writes what an edit says, and notes it.
+    // Writes an edit, and notes it.
     #[inline(always)]
     pub(crate) fn write_noted(
         &mut self,

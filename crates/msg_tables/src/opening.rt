@@ -1,11 +1,11 @@
-//! Opening tables.
+//! Opens tables.
 
 ghost use Rattle.std.specs.Prelude.{◌≡◌, ◌<◌, ◌≤◌, ◌+◌, ◌*◌, IfOk, OnOk, length};
 ghost use Rattle.std.specs.Option.{ForSome};
 ghost use Rattle.std.specs.Vec.{vec_capacity};
 ghost use Rattle.msg_tables.specs.After.{opened_supers, rows_at, list_rows};
 ghost use Rattle.msg_tables.specs.Log.{empty};
-ghost use Rattle.msg_tables.specs.Methods.{method_numbers};
+ghost use Rattle.msg_rows.specs.Methods.{method_numbers};
 ghost use Rattle.msg_tables.specs.Attached.{list_in};
 ghost use Rattle.msg_tables.specs.Opening.{Adds, AddsList, HasClassesOf, IsBlank, IsFor, rows_before};
 ghost use Rattle.msg_tables.specs.Order.{IsOrder};
@@ -17,13 +17,14 @@ use crate::counts::Counts;
 use crate::origin::{HasOrigin, Origin};
 use crate::preorder::preorder_of;
 use crate::presence::Presence;
-use crate::row_lists::RowLists;
 use crate::tables::Tables;
 use msg_names::{ClassRef, ImpRef, Selector};
 use msg_order::class_order;
+use msg_rows::RowLists;
 use std::alloc::{AllocError, Global};
 
-// The classes as tables are opened: the listed ones are present, and those that may be made aren't.
+// The classes when tables are opened: the listed ones are present, and those that may be made
+// aren't.
 fn opened_classes(alloc: Global, origin: &Origin) -> Result<Vec<Option<Presence>>, AllocError>
     ensures { IfOk result (λ supers. supers.items ≡ opened_supers origin.now) }
 {
@@ -70,7 +71,7 @@ fn copied_counts(counts: &Option<Counts>) -> Result<Option<Counts>, AllocError>
 }
 
 impl Tables {
-    // Tables of the classes, without rows.
+    // Makes tables of the classes, without rows.
     fn blank(alloc: Global, origin: &Origin) -> Result<Tables, AllocError>
         ensures { IfOk result (IsBlank origin.now) }
     {
@@ -91,7 +92,7 @@ impl Tables {
         })
     }
 
-    // The methods of a class reference, as they are listed.
+    // Adds the methods of a class reference, in the order of its list.
     fn open_methods(
         &mut self,
         class: ClassRef,
@@ -107,7 +108,7 @@ impl Tables {
         Ok(())
     }
 
-    // The method list of a pair, after those before it.
+    // Adds the method list of a pair, after those before it.
     fn open_list(&mut self, origin: &Origin, pair: usize, meta: bool) -> Result<(), AllocError>
         requires tables { IsFor origin.now self.old }
         requires sound { IsSound origin.now }
@@ -131,7 +132,7 @@ impl Tables {
         Ok(())
     }
 
-    // The tables of an origin.
+    // Opens the tables of an origin.
     fn of(alloc: Global, origin: &Origin) -> Result<Tables, AllocError>
         ensures stands { IfOk result (λ tables. StandsAt tables (empty origin.now)) }
         ensures classes { IfOk result (HasClassesOf origin.now) }
@@ -141,7 +142,7 @@ impl Tables {
         Ok(tables)
     }
 
-    /// The tables as a program finds them that was just loaded: each class has its methods, and the
+    /// Opens the tables of a program that was just loaded: each class has its methods, and the
     /// categories were attached one after another.
     ///
     /// Each method is copied once.

@@ -1,4 +1,4 @@
-//! What tables are opened of.
+//! What tables are opened from.
 
 ghost use Rattle.std.specs.Prelude.{◌≡◌, ◌<◌, ◌*◌, Some, drop, length, slice_get};
 ghost use Rattle.msg_tables.specs.Attached.{ListsAt, categories_in, list_in};
@@ -28,14 +28,14 @@ pub struct Category {
     pub class_methods: MethodList,
 }
 
-/// Classes with their methods, as a program finds them that was just loaded.
+/// Classes with their methods, in the state of a program that was just loaded.
 #[derive(Drop)]
 pub struct Origin {
-    // The listed classes, which are numbered first.
+    // The listed classes. They are numbered first.
     classes: Vec<ListedClass>,
-    // How many classes may be made, which are numbered after them.
+    // The number of classes that may be made. They are numbered after the listed ones.
     made: u32,
-    // In the order in which they are attached, after the classes' own lists.
+    // The categories, in the order in which they are attached after the classes' own lists.
     categories: Vec<Category>,
     pub(crate) counts: Option<Counts>,
     limits: Limits,
@@ -54,7 +54,7 @@ impl Model for Origin {
 }
 
 impl Origin {
-    /// Classes that are known to be sound.
+    /// Makes an origin of classes that are known to be sound.
     pub fn new(
         classes: Vec<ListedClass>,
         made: u32,
@@ -74,7 +74,7 @@ impl Origin {
         }
     }
 
-    /// How many classes have numbers: the listed ones, and after them those that may be made.
+    /// The number of classes with numbers: the listed ones, and after them those that may be made.
     pub fn class_count(&self) -> u32
         ensures count { result ≡ class_total self.now }
         ensures sound { IsSound self.now }
@@ -82,14 +82,14 @@ impl Origin {
         self.classes.len() as u32 + self.made
     }
 
-    /// How much tables of them may hold, and caches over these.
+    /// The limits of the tables, and of the caches over them.
     pub fn limits(&self) -> Limits
         ensures { result ≡ self.now.limits }
     {
         self.limits
     }
 
-    /// How many classes are listed. They are present as the tables are opened.
+    /// The number of listed classes. They are present when the tables are opened.
     pub fn listed_count(&self) -> u32
         ensures { result ≡ length self.now.superclasses }
     {
@@ -104,7 +104,7 @@ impl Origin {
         self.classes[class as usize].superclass
     }
 
-    /// How many pairs of method lists there are: one of each class, and one of each category.
+    /// The number of pairs of method lists: one for each class, and one for each category.
     pub fn pair_count(&self) -> usize
         ensures pairs { 2 * result ≡ length self.now.lists }
         ensures sound { IsSound self.now }
@@ -127,7 +127,8 @@ impl Origin {
         }
     }
 
-    /// A method list, and whose it is: of a pair the class's, or the metaclass's.
+    /// A method list and its owner: in a pair the first is of the class, and the second of the
+    /// metaclass.
     pub fn list(&self, pair: usize, meta: bool) -> (ClassRef, &MethodList)
         requires { 2 * pair < length self.now.lists }
         ensures { list_in self.now.lists pair meta ≡ Some (record { class = result.0; methods = result.1.now }) }
@@ -149,11 +150,11 @@ impl Origin {
     }
 }
 
-/// What has classes of which tables can be opened.
+/// A source of classes from which tables can be opened.
 pub trait HasOrigin {
     ghost use Rattle.msg_tables.specs.Origin.{OriginView};
 
-    // What contracts see of them.
+    // The contracts' view of the classes.
     ghost given: { Self → OriginView };
 
     /// The classes.

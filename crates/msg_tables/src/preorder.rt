@@ -12,8 +12,8 @@ ghost use Rattle.msg_tables.specs.Preorder.{depths_with, nexts_with};
 use crate::presence::Presence;
 use std::alloc::{AllocError, Global};
 
-// Of each class how many superclasses it has above it, and which class comes next, where that is no
-// root class. So what is below a class is found by a walk over just that.
+// For each class the number of superclasses above it, and the class that comes next, unless that is
+// a root class. So the classes below a class are found by a walk over just those classes.
 #[derive(Drop)]
 pub(crate) struct Preorder {
     depths: Vec<u32>,
@@ -21,7 +21,7 @@ pub(crate) struct Preorder {
 }
 
 impl Preorder {
-    // Room for classes, none of which stands in the order.
+    // Makes room for classes, none of which is in the order.
     pub(crate) fn new(alloc: Global, classes: usize) -> Result<Preorder, AllocError>
         ensures depths { IfOk result (λ t. t.depths.items ≡ replicate classes 0) }
         ensures nexts { IfOk result (λ t. t.nexts.items ≡ replicate classes None) }
@@ -53,8 +53,8 @@ impl Preorder {
         }
     }
 
-    // Takes a class out that no class is below, and that has left the others and their order. One
-    // that comes right after its superclass costs no more; else all classes are gone over.
+    // Removes a class that has no class below it, and keeps the others in their order. If the class
+    // comes right after its superclass, this is all it costs; else all classes are visited.
     pub(crate) fn forget(
         &mut self,
         class: u32,
@@ -72,8 +72,8 @@ impl Preorder {
         }
     }
 
-    // Takes a class out that comes right after its superclass. Answers whether it does: else the
-    // order is as it was.
+    // Removes a class if it comes right after its superclass. Returns whether it does; if not, the
+    // order stays the same.
     fn leave(&mut self, class: u32, superclass: Option<u32>) -> bool
         requires next { class < length self.old.nexts.items }
         requires above { IfSome superclass (λ d. d < length self.old.nexts.items) }
@@ -91,7 +91,7 @@ impl Preorder {
         true
     }
 
-    // Places the classes of an order anew, in the room that there is.
+    // Places the classes of an order again, in the room that there is.
     pub(crate) fn rebuild(&mut self, supers: &[Option<Presence>], order: &[u32])
         requires order { IsOrder supers.now order.now }
         requires few { length supers.now ≤ MAX_CLASSES }
@@ -104,8 +104,8 @@ impl Preorder {
         place_all(self, supers, order);
     }
 
-    // Gathers a class and those below it, each after its superclass. It looks at just these, and at
-    // one more.
+    // Collects a class and those below it, each after its superclass. It visits just these and one
+    // more.
     pub(crate) fn gather(&self, class: u32, classes: &mut Vec<u32>)
         requires preorder { CanBeGathered self.now class (vec_capacity classes.old) }
         requires none { classes.old.items ≡ [] }
@@ -134,7 +134,7 @@ fn superclass_in(supers: &[Option<Presence>], class: u32) -> Option<u32>
     supers[class as usize].unwrap().superclass
 }
 
-// Places the classes of an order one by one, where none is placed yet.
+// Places the classes of an order one by one, if none is placed yet.
 fn place_all(preorder: &mut Preorder, supers: &[Option<Presence>], order: &[u32])
     requires order { IsOrder supers.now order.now }
     requires few { length supers.now ≤ MAX_CLASSES }
@@ -147,7 +147,7 @@ fn place_all(preorder: &mut Preorder, supers: &[Option<Presence>], order: &[u32]
     }
 }
 
-// The classes of an order, those below a class right after it.
+// The classes of an order. Those below a class come right after it.
 pub(crate) fn preorder_of(
     alloc: Global,
     supers: &[Option<Presence>],

@@ -1,11 +1,11 @@
-//! What a list of changes would reach.
+//! What a list of changes would affect.
 
 ghost use Rattle.std.specs.Prelude.{◌≡◌, ◌<◌, ◌≤◌, ◌*◌, [], ◌∷◌, All, IfErr, IfSome, OnOk, length};
 ghost use Rattle.msg_tables.specs.Journal.{NamesListed};
 ghost use Rattle.msg_tables.specs.Log.{Log};
 ghost use Rattle.msg_tables.specs.Making.{AreMadeBefore, IsMarkedBelow, IsRefusedUnlessMemory, LacksMemory};
 ghost use Rattle.msg_tables.specs.Making.{MarksTold, ReachesAll, ReachesBefore, RefusesNone, WantsMemory};
-ghost use Rattle.msg_tables.specs.RowList.{HaveGrown};
+ghost use Rattle.msg_rows.specs.RowList.{HaveGrown};
 ghost use Rattle.msg_tables.specs.Stands.{StandsAt};
 ghost use Rattle.msg_tables.specs.View.{IsKept};
 
@@ -18,8 +18,9 @@ use crate::tables::Tables;
 use msg_names::ClassRef;
 
 impl Tables {
-    // Marks what an entry tells of: a class that was made or disposed of, or where rows were
-    // written and all below, unless these were marked last. Answers what was marked last then.
+    // Marks what an entry affects: a class that was made or disposed of, or the class reference
+    // where rows were written and all below it. It skips the latter if they were marked last.
+    // Returns what is then marked last.
     fn mark_entry(
         &self,
         entry: Entry,
@@ -49,8 +50,8 @@ impl Tables {
         Some(place)
     }
 
-    // Marks what entries tell of. Of those at one place that follow one another the first alone has
-    // its classes gone over.
+    // Marks what entries affect. If several entries at one place follow one another, the classes
+    // below it are visited only for the first.
     fn mark_written(&self, entries: &[Entry], marked: &mut [bool], below: &mut Below)
         requires listed { All (NamesListed (length self.now.supers)) entries.now }
         requires marks { length marked.old ≡ 2 * length self.now.supers }
@@ -66,15 +67,14 @@ impl Tables {
     }
 
     /// Marks the class references whose lookups a list of changes may alter if it is made as one,
-    /// beside those that are marked, each at its slot; or says which of them would be refused. No
-    /// lookup of a class reference that it doesn't mark is altered by the list. Where one would be
-    /// refused, what those before it affect is marked; where memory is wanting, the marks say
-    /// nothing.
+    /// in addition to those that are marked, each at its slot. The list alters no lookup of any
+    /// other class reference. If a change would be refused, it returns which, and marks what the
+    /// changes before it affect. If memory is lacking, the marks say nothing.
     ///
-    /// The changes are made and taken back, and what they write is noted in the room that is lent:
+    /// The changes are made and taken back, and what they write is noted in `written`;
     /// [`apply_all`](Tables::apply_all) says what that costs. The classes that are marked are also
-    /// looked at, once for each place at which the changes write, if those of a place follow one
-    /// another.
+    /// visited, once for each place at which the changes write, if the changes of a place follow
+    /// one another.
     pub fn reach_all<L: ChangeList>(
         &mut self,
         changes: &L,

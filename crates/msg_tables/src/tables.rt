@@ -12,15 +12,14 @@ use crate::counts::Counts;
 use crate::limits::Limits;
 use crate::preorder::Preorder;
 use crate::presence::Presence;
-use crate::row_lists::RowLists;
-use crate::rows::MethodRows;
 use msg_names::{ClassRef, ImpRef, Selector};
+use msg_rows::RowLists;
 use std::marker::Model;
 
 /// The class tables at a point of their log.
 ///
-/// A lookup goes up the superclasses, and at each compares the selector with the few methods of its
-/// bucket, however many the class has.
+/// A lookup goes up the superclasses. At each it compares the selector with the few methods in the
+/// selector's bucket, however many methods the class has.
 #[derive(Drop)]
 pub struct Tables {
     pub(crate) supers: Vec<Option<Presence>>,
@@ -28,7 +27,7 @@ pub struct Tables {
     // made.
     pub(crate) order: Vec<u32>,
     pub(crate) preorder: Preorder,
-    // How many classes were listed as the tables were opened; these stay.
+    // The number of classes that were listed when the tables were opened; these stay.
     pub(crate) listed: u32,
     pub(crate) lists: RowLists,
     pub(crate) counts: Option<Counts>,
@@ -57,8 +56,8 @@ pub(crate) struct Method {
 }
 
 impl Tables {
-    /// The superclass, or for a metaclass the superclass's metaclass, and for a root metaclass the
-    /// root class itself.
+    /// The superclass. For a metaclass that is the superclass's metaclass, and for a root metaclass
+    /// the root class itself.
     #[inline]
     pub fn superclass(&self, class: ClassRef) -> Option<ClassRef>
         requires { class.class < length self.now.supers }
@@ -68,15 +67,15 @@ impl Tables {
         self.above(class)
     }
 
-    /// Whether it is known how many arguments each selector and each implementation takes, as of a
-    /// document's. Of a host's it isn't: all of them fit one another.
+    /// Whether the numbers of arguments that selectors and implementations take are known, as for a
+    /// document. For a host they are unknown, and all of them fit one another.
     pub fn counts_arguments(&self) -> bool
         ensures { result ≡ is_some self.now.counts }
     {
         self.counts.is_some()
     }
 
-    // The class reference, where its class is present.
+    // The class reference, if its class is present.
     #[inline(always)]
     pub(crate) fn present(&self, class: ClassRef) -> Option<ClassRef>
         requires { class.class < length self.now.supers }
@@ -130,10 +129,10 @@ impl Tables {
         None
     }
 
-    /// The implementation of the method that the class or the nearest superclass has, and else
-    /// forwarding.
+    /// Returns the implementation of the method that the class or its nearest superclass with one
+    /// has, or forwarding if there is none.
     ///
-    /// Each class on the way costs a bucket, in which a class has a method or two. No memory is
+    /// Each class on the way costs one bucket, in which a class has a method or two. No memory is
     /// taken.
     pub fn lookup(&self, class: ClassRef, sel: Selector) -> ImpRef
         requires { class.class < length self.now.supers }
@@ -146,7 +145,7 @@ impl Tables {
         }
     }
 
-    /// The class reference at which that method stands.
+    /// Returns the class reference that has that method.
     pub fn holder(&self, class: ClassRef, sel: Selector) -> Option<ClassRef>
         requires { class.class < length self.now.supers }
         ensures listed { IfSome result (λ holder. holder.class < length self.now.supers) }

@@ -1,18 +1,18 @@
-//! Taking back what a list of changes wrote.
+//! Takes back what a list of changes wrote.
 
 ghost use Rattle.std.specs.Prelude.{◌≡◌, ◌<◌, ◌≤◌, ◌-◌, ◌∷◌, ◌++◌, [], None, Some, drop, length, slice_set, take, true, false};
 ghost use Rattle.std.specs.Vec.{vec_capacity};
 ghost use Rattle.msg_tables.specs.Journal.{lists_before, supers_before, order_before, before_all, makes};
 ghost use Rattle.msg_tables.specs.Journal.{AreTakenBack, CanAllGoBack, CanGoBack, GoesBack, IsSoundView};
-ghost use Rattle.msg_tables.specs.RowList.{HaveGrown, KeepRoom, rows_of};
+ghost use Rattle.msg_rows.specs.RowList.{HaveGrown, KeepRoom, rows_of};
 ghost use Rattle.msg_tables.specs.View.{IsWithinRoom, TablesView};
 
 use crate::entry::{Entry, Written};
 use crate::presence::Presence;
-use crate::row_lists::RowLists;
 use crate::tables::Tables;
+use msg_rows::RowLists;
 
-/// How many rows and changes tables have before a list is made.
+/// The numbers of rows and of changes that tables have before a list is made.
 #[derive(Clone, Copy)]
 pub struct Start {
     pub rows: u64,
@@ -31,7 +31,7 @@ fn unmake(class: u32, supers: &mut Vec<Option<Presence>>, order: &mut Vec<u32>)
     }
 }
 
-// Puts a class back that was disposed of, for which there is room in the order.
+// Puts back a class that was disposed of, for which there is room in the order.
 fn remake(
     class: u32,
     superclass: Option<u32>,
@@ -52,7 +52,7 @@ fn remake(
     }
 }
 
-// Takes back what an entry tells of. Answers whether it is a class.
+// Takes back what an entry describes. Returns whether it is a class.
 fn unwrite(
     entry: Entry,
     supers: &mut Vec<Option<Presence>>,
@@ -100,7 +100,7 @@ fn unwrite(
     }
 }
 
-// Takes back the entries of a journal, the last first. Answers whether a class is among them.
+// Takes back the entries of a journal, the last first. Returns whether a class is among them.
 fn unwrite_all(
     journal: &mut Vec<Entry>,
     supers: &mut Vec<Option<Presence>>,
@@ -125,7 +125,7 @@ fn unwrite_all(
 }
 
 impl Tables {
-    /// What [`retract`](Tables::retract) has to know of the tables before a list is made.
+    /// What [`retract`](Tables::retract) needs to know of the tables from before a list is made.
     pub fn start(&self) -> Start
         ensures start { result ≡ record { rows = self.now.row_count; changes = self.now.change_count } }
         ensures sound { IsSoundView self.now }
@@ -137,8 +137,8 @@ impl Tables {
         }
     }
 
-    // Takes back all that a journal tells of. No memory is taken; where a class was made, all
-    // classes are gone over.
+    // Takes back all that a journal describes. No memory is taken. If a class was made, all classes
+    // are visited.
     pub(crate) fn take_back(&mut self, start: Start, journal: &mut Vec<Entry>)
         requires { (old : TablesView) × GoesBack journal.old.items start.rows start.changes old self.old }
         ensures back { AreTakenBack journal.old.items start.rows start.changes self.old self.new }
@@ -154,9 +154,9 @@ impl Tables {
         }
     }
 
-    /// Takes a list back that was made last, of which nothing was told yet: the tables are as they
-    /// were, and it isn't counted. No memory is taken; it costs what taking back a refused list
-    /// does.
+    /// Takes back the list that was made last, of which nothing was published yet. The tables are
+    /// as they were before, and the list isn't counted. No memory is taken. It costs the same as
+    /// taking back a refused list.
     pub fn retract(&mut self, start: Start, written: &mut Written)
         requires { (old : TablesView) × GoesBack written.old.entries start.rows start.changes old self.old }
         ensures back { AreTakenBack written.old.entries start.rows start.changes self.old self.new }

@@ -47,7 +47,7 @@ const FOUR: [u64; 4] = [
     0x0000_0003_0000_001e,
 ];
 
-// It ends where it began.
+// The probe ends where it began.
 const FULL: [Row; 10] = [
     Row::Put(1, 10, Placed::At(1)),
     Row::Put(2, 20, Placed::At(2)),

@@ -1,4 +1,4 @@
-//! Documents, edits of them, and the number of the fault that one is refused with. Want of memory
+//! Documents, edits of them, and the number of the fault that one is refused with. Lack of memory
 //! ends a test where it comes: a `?` there would drop each text that the test owns once more.
 
 use crate::same::same_at;
@@ -55,13 +55,13 @@ pub(crate) fn number(alloc: Global, text: &[u8]) -> Option<u32> {
     read_document(alloc, text).err().map(DocumentFault::number)
 }
 
-/// The text with `new` where it first has `old`.
+/// The text with `new` in place of its first `old`.
 pub(crate) fn edited(rt: &impl Abort, alloc: Global, text: &str, old: &str, new: &str) -> String {
     let (before, after) = text.split_once(old).expect(rt, "a text to edit");
     format!(in alloc; "{before}{new}{after}").expect(rt, "memory")
 }
 
-/// The piece so many times, with commas.
+/// The piece this number of times, with commas.
 pub(crate) fn listed(rt: &impl Abort, alloc: Global, piece: &str, count: usize) -> String {
     let mut text = String::new(alloc);
     for place in 0..count {

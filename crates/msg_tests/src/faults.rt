@@ -6,8 +6,8 @@ use msg_samples::SMALL;
 use std::alloc::Global;
 use std::process::Abort;
 
-// An edit of a document by a long list: `old` is replaced by `before`, so many pieces with commas,
-// and `after`.
+// An edit of a document by a long list: `old` is replaced by `before`, this number of pieces with
+// commas, and `after`.
 #[derive(Clone, Copy)]
 struct Long {
     document: &'static str,
@@ -134,7 +134,7 @@ fn long_lists(rt: HostRuntime) {
     entries_of_two_lists(&rt, alloc, &half, &more);
 }
 
-/// So many sends, each of another selector.
+/// This number of sends, each of another selector.
 fn numbered_sends(rt: &impl Abort, alloc: Global, count: u32, after: &str) -> String {
     let mut text = String::new(alloc);
     for selector in 0..count {
@@ -147,7 +147,7 @@ fn numbered_sends(rt: &impl Abort, alloc: Global, count: u32, after: &str) -> St
     text
 }
 
-// Sends of so many selectors, whose names end so, and then these items give the answer.
+// Sends of this number of selectors, whose names end so, and then these items give the answer.
 fn sends_are(
     rt: &impl Abort,
     alloc: Global,
@@ -198,7 +198,7 @@ fn a_text_of_more_bytes_is_not_read(rt: HostRuntime) {
 #[test]
 fn arguments_are_numbered_below_their_count(rt: HostRuntime) {
     let alloc = rt.alloc();
-    // `r_make` stands in the list of class methods.
+    // `r_make` is in the list of class methods.
     let unlisted = edited(&rt, alloc, FULL, r#"["make","r_make"]"#, "");
     let old = r#""args":0,"body":["self"]"#;
     for (new, want) in [

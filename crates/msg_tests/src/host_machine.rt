@@ -18,7 +18,7 @@ const SELECTOR: u32 = 4_000_000_003;
 
 const IMP: u32 = 3_000_000_000;
 
-// The selector with the implementation, which stands at the place that its two lowest bits say.
+// The selector with the implementation, which is at the place that its two lowest bits say.
 const WORD: u64 = 4_000_000_003 << 32 | 3_000_000_000;
 
 const SENDERS: u32 = 100;

@@ -12,7 +12,7 @@ use msg_tables::{ChangeFault, Entry, Refused, Tables, Written};
 use std::alloc::Global;
 use std::process::Abort;
 
-// A method is added below, one is set where it stands, and a category is attached.
+// A method is added below, one is set where it is, and a category is attached.
 fn three(rt: &impl Abort, alloc: Global, value: Selector, tag: Selector) -> Vec<Change> {
     let add = Change::Add {
         class: GRAND,
@@ -119,7 +119,7 @@ fn a_refused_list_leaves_all_as_it_was(rt: HostRuntime) {
     same(&rt, outcome, Ok(()));
 }
 
-// A method that is set where it stands, and one that is exchanged with it.
+// A method that is set where it is, and one that is exchanged with it.
 fn two(rt: &impl Abort, alloc: Global, value: Selector, name: Selector) -> Vec<Change> {
     let set = Change::SetImp {
         class: SIDE,

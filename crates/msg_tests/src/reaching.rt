@@ -1,4 +1,4 @@
-//! What changes would reach, asked without making them.
+//! What changes would affect, found without making them.
 
 ghost use Rattle.std.specs.Prelude.{◌≡◌, length};
 ghost use Rattle.msg_image.specs.Opened.{origin_of};
@@ -14,7 +14,7 @@ use msg_tables::{ChangeFault, Refused, Tables, Written};
 use std::alloc::Global;
 use std::process::Abort;
 
-// `Child` and `Side` stand below `Root`, `Grand` below `Child`, and `Proxy` by itself.
+// `Child` and `Side` are below `Root`, `Grand` below `Child`, and `Proxy` by itself.
 const ROOT: ClassRef = ClassRef {
     class: 0,
     meta: false,
@@ -66,7 +66,7 @@ fn asked(
     (answer, marked.iter().filter(|mark| **mark).count())
 }
 
-// The changes would be made, and alter lookups of so many class references at most.
+// The changes would be made, and alter lookups of this number of class references at most.
 fn reaches(rt: &impl Abort, alloc: Global, image: &Image, changes: &[Change], count: usize) {
     same(rt, asked(rt, alloc, image, changes), (Ok(()), count));
 }
@@ -87,7 +87,7 @@ fn set(class: ClassRef, sel: Selector) -> Change {
     }
 }
 
-// A method reaches its class and what is below; a root class's also the metaclasses, which stand
+// A method reaches its class and what is below; a root class's also the metaclasses, which are
 // below it. `Root` has `value` and `name`, and `Child` the second.
 fn methods_reach_what_is_below(rt: &impl Abort, alloc: Global, image: &Image) {
     let (value, name) = (selector(rt, 2), selector(rt, 3));
@@ -98,9 +98,9 @@ fn methods_reach_what_is_below(rt: &impl Abort, alloc: Global, image: &Image) {
         imp: ImpRef::of(2),
     };
     reaches(rt, alloc, image, &[replaced], 8);
-    // it stands at `Child`
+    // it is at `Child`
     reaches(rt, alloc, image, &[set(GRAND, name)], 2);
-    // one stands at `Root`, the other at `Child`
+    // one is at `Root`, the other at `Child`
     let exchange = Change::Exchange {
         class: GRAND,
         sel: value,

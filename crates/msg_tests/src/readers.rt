@@ -5,7 +5,7 @@ use crate::same::same_at;
 use msg_samples::{Readings, read_by_both};
 use std::alloc::{AllocError, Global};
 
-// How many texts there are.
+// The number of texts.
 const TEXTS: usize = 10_000;
 
 // Texts that values are put together from. They are JSON, but for the last four.
@@ -55,7 +55,7 @@ const KEYS: [&str; 8] = [
     "\"a\\n\"",
 ];
 
-// What comes into the place of a byte.
+// The byte that replaces another.
 const BYTES: [u8; 16] = [
     b'"', b'\\', b',', b':', b'[', b']', b'{', b'}', b' ', b'0', b'9', b'-', b'e', 0, 0x80, 0xC3,
 ];

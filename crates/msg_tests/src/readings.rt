@@ -1,4 +1,4 @@
-//! What is read from an image, and the items of a document.
+//! What can be read from an image, and the items of a document.
 
 ghost use Rattle.std.specs.Prelude.{◌≡◌};
 
@@ -11,7 +11,7 @@ use msg_samples::{Hog, IMAGE};
 use std::alloc::Global;
 use std::process::Abort;
 
-// What a test owns lies in a box, since each way out of the test drops it by one call there.
+// A test keeps what it owns in a box, because each way out of the test then drops it by one call.
 fn read(rt: &impl Abort, alloc: Global, text: &str) -> Box<Document> {
     let document = read_document(alloc, text.as_bytes()).expect(rt, "a document");
     Box::new(alloc, document).expect(rt, "memory")
@@ -94,7 +94,7 @@ const SECOND: &str = r#"{"version":2,
 "classes":[{"name":"Child","super":"Root","methods":[],"class_methods":[]},{"name":"Root","super":null,"methods":[],"class_methods":[]}],
 "made":["Late"],"categories":[],"objects":[{"name":"l","class":"Late"}],"imps":[],"items":[{"change":["make","Late","Child"]}]}"#;
 
-// Of the document's one change.
+// Checks the document's only change.
 fn makes_the_third_class(items: &[Item]) -> bool {
     match items {
         [Item::Change(Change::AddClass { class, superclass })] => {
@@ -127,7 +127,7 @@ fn classes_that_may_be_made_come_last(rt: HostRuntime) {
     assert!(rt; makes_the_third_class(&document.items));
 }
 
-// Of the document's one item.
+// Checks the document's only item.
 fn makes_and_attaches(rt: &impl Abort, items: &[Item]) -> bool {
     let [Item::ChangeAll(changes)] = items else {
         return false;
@@ -300,7 +300,7 @@ fn method_is(
     );
 }
 
-// The place of a change among the items, where it is as listed.
+// The place of a change among the items, if it is the listed one.
 fn place_of_change(rt: &impl Abort, change: &Change) -> u32 {
     match change {
         Change::Add { class, sel, imp } => {
@@ -341,7 +341,7 @@ fn place_of_change(rt: &impl Abort, change: &Change) -> u32 {
     }
 }
 
-// The place of an item, where it is as listed.
+// The place of an item, if it is the listed one.
 fn place_of(rt: &impl Abort, item: &Item) -> u32 {
     match item {
         Item::Send {

@@ -48,7 +48,7 @@ pub(crate) fn metaclass(class: ClassRef) -> ClassRef
     }
 }
 
-// What a test owns lies in a box, since each way out of the test drops it by one call there.
+// A test keeps what it owns in a box, because each way out of the test then drops it by one call.
 pub(crate) fn image(rt: &impl Abort, alloc: Global) -> Box<Image> {
     let document = read_document(alloc, IMAGE.as_bytes()).expect(rt, "a document");
     Box::new(alloc, document.image).expect(rt, "memory")
@@ -69,7 +69,7 @@ fn numbered(rt: &impl Abort, number: u32) -> Selector {
     Selector::of(number).expect(rt, "a number above 0")
 }
 
-// Which implementation each class finds, and where it stands.
+// The implementation that each class finds, and where it is.
 fn methods_are_found(rt: &impl Abort, image: &Image, tables: &Tables)
     requires { length tables.now.supers ≡ class_total (origin_of image.now) }
 {
@@ -205,7 +205,7 @@ fn are_refused(rt: &impl Abort, tables: &Tables) {
     }
 }
 
-// Makes a change, as a list of one, or says why not.
+// Makes a change, as a list of one, or returns why not.
 fn applied(alloc: Global, tables: &mut Tables, change: &Change) -> Option<ChangeFault>
     ensures { length tables.new.supers ≡ length tables.old.supers }
 {
@@ -214,7 +214,7 @@ fn applied(alloc: Global, tables: &mut Tables, change: &Change) -> Option<Change
     outcome.err().map(|refused| refused.fault)
 }
 
-// What fresh tables make of a change. Before it is made they are asked for the fault.
+// The outcome of a change in fresh tables, which are asked for the fault before it is made.
 fn fault_is<K: Debug>(
     rt: &impl Abort,
     alloc: Global,
@@ -228,7 +228,7 @@ fn fault_is<K: Debug>(
     same_at(rt, row, applied(alloc, &mut tables, change), want);
 }
 
-// Fresh tables refuse this method so, where it is added, replaced and set.
+// Fresh tables refuse this method with this fault, whether it is added, replaced or set.
 fn faults_are(
     rt: &impl Abort,
     alloc: Global,
@@ -408,7 +408,7 @@ fn is_too_much(rt: &impl Abort, alloc: Global, tables: &mut Tables, change: Chan
     same(rt, tables.refusal(&change), Some(ChangeFault::Limit));
 }
 
-// No kind of change is made, and a method that is there is told first.
+// No change of any kind is made, and that a method is present is reported first.
 fn are_full(rt: &impl Abort, alloc: Global, tables: &mut Tables, sel: Selector, name: Selector) {
     let (class, imp) = (CHILD, ImpRef::of(1));
     is_too_much(rt, alloc, tables, Change::Replace { class, sel, imp });

@@ -11,7 +11,7 @@ use std::process::Abort;
 
 const CLASSES: u32 = 7;
 
-// Tables of so many class numbers.
+// Tables of this number of class numbers.
 #[derive(Drop)]
 struct Seven {
     tables: Tables,
@@ -32,7 +32,7 @@ fn sel(rt: &impl Abort, number: u32) -> Selector {
     Selector::of(number).expect(rt, "a number above 0")
 }
 
-// A number below another, or 0 where that is 0.
+// A number below another, or 0 if that is 0.
 fn draw(state: &mut u64, below: u32) -> u32
     ensures { 0 < below → result < below }
 {

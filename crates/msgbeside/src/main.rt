@@ -1,5 +1,5 @@
-//! Reads a document from standard input, makes its changes beside its sends, and writes the answers
-//! to standard output: `msgbeside [workers [cut]]`.
+//! Reads a document from standard input, makes its changes while its sends are answered, and writes
+//! the answers to standard output: `msgbeside [workers [cut]]`.
 #![tactic(auto)]
 
 use msg_io::{FromReader, Program, ToWriter};

@@ -1,4 +1,4 @@
-//! Reads a document from standard input, and says where it is at fault, if it is refused, or which
+//! Reads a document from standard input, and writes where its fault is, if it is refused, or which
 //! lookups are behind its answers: `msgexplain [beside]`.
 #![tactic(auto)]
 

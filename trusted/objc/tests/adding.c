@@ -1,9 +1,10 @@
 /* 5,000 methods of new names are added beside senders. No send finds anything wrong. */
 #include "modules.h"
 #include <pthread.h>
+#include <sched.h>
 #include <stdatomic.h>
 
-static atomic_int stop;
+static atomic_int stop, sends;
 static SEL first;
 
 static void *work(void *object)
@@ -11,6 +12,7 @@ static void *work(void *object)
     size_t wrong = 0;
     while (!atomic_load(&stop))
         if (send(object, first) != 11) wrong++;
+        else sends++;
     return (void *)wrong;
 }
 
@@ -27,6 +29,7 @@ int main(void)
         snprintf(name, sizeof name, "added%d", i);
         SEL sel = sel_registerName(name);
         if (!class_addMethod(&root, sel, two, "@16@0:8") || send(object, sel) != 12) missing++;
+        for (int is = sends; i % 100 == 0 && sends == is;) sched_yield();
     }
     atomic_store(&stop, 1);
     for (int i = 0; i < 2; i++) {

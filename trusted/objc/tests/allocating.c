@@ -7,7 +7,7 @@
 #include <stdlib.h>
 #include <sys/wait.h>
 
-enum { KINDS = 3, BLOCKS = 64, ENOUGH = 50, PATIENCE = 20 };
+enum { KINDS = 3, BLOCKS = 64, ENOUGH = 50, PATIENCE = 90 };
 
 static SEL sels[KINDS];
 static id object;

@@ -1,20 +1,22 @@
 /* A change is stopped before each single instruction of it, and there a handler of a signal
  * sends, then another thread, and the handler again: none finds an older method than who found
- * one before it. The other thread may have to wait for the change's lock: then it isn't waited
- * for. */
+ * one before it. The other thread may have to wait for the change's lock: then it sleeps, and isn't
+ * waited for. */
 #define _GNU_SOURCE /* for the names of registers */
 #include "modules.h"
+#include <fcntl.h>
 #include <pthread.h>
 #include <sched.h>
 #include <signal.h>
-#include <time.h>
+#include <sys/syscall.h>
 #include <ucontext.h>
+#include <unistd.h>
 
-enum { ENDLESS = 100000, PATIENCE = 100000 }; /* nanoseconds */
+enum { ENDLESS = 100000 };
 
 static SEL first;
 static id object;
-static long wrong, asked, answered, beside, waited;
+static long wrong, asked, answered, beside, waited, tid;
 
 static long get(long *at) { return __atomic_load_n(at, __ATOMIC_SEQ_CST); }
 static void set(long *at, long to) { __atomic_store_n(at, to, __ATOMIC_SEQ_CST); }
@@ -22,6 +24,7 @@ static void set(long *at, long to) { __atomic_store_n(at, to, __ATOMIC_SEQ_CST);
 /* Until it is asked -1 times. */
 static void *answer_on(void *none)
 {
+    set(&tid, syscall(SYS_gettid));
     for (long last = 0, now; (now = get(&asked)) >= 0; last = now) {
         if (now == last) sched_yield();
         else {
@@ -32,19 +35,23 @@ static void *answer_on(void *none)
     return none;
 }
 
-static long nanoseconds(void)
+/* Of the other thread, which elsewhere goes on. The state is told behind its name. */
+static bool sleeps(void)
 {
-    struct timespec now;
-    clock_gettime(CLOCK_MONOTONIC, &now);
-    return now.tv_sec * 1000000000L + now.tv_nsec;
+    char path[64], text[128] = "";
+    snprintf(path, sizeof path, "/proc/self/task/%ld/stat", get(&tid));
+    int file = open(path, O_RDONLY);
+    const char *end = read(file, text, sizeof text - 1) > 0 ? strrchr(text, ')') : NULL;
+    close(file);
+    return end && end[2] == 'S';
 }
 
 /* The other thread's answer, or 0 where it has to wait. */
 static long ask(void)
 {
-    long number = get(&asked) + 1, end = nanoseconds() + PATIENCE;
+    long number = get(&asked) + 1;
     set(&asked, number);
-    while (get(&answered) != number && nanoseconds() < end) sched_yield();
+    while (get(&answered) != number && !sleeps()) sched_yield();
     return get(&answered) == number ? get(&beside) : 0;
 }
 
@@ -122,11 +129,12 @@ int main(void)
     object = class_createInstance(&child, 0);
     send(object, first);
     pthread_create(&thread, NULL, answer_on, NULL);
+    while (!get(&tid)) sched_yield();
     long steps = change_each();
     set(&asked, -1);
     pthread_join(thread, NULL);
     fprintf(stderr, "%ld steps; the other thread had to wait at %ld\n", steps, waited);
-    printf("tried %d, wrong %ld\n", steps > 0 && steps < ENDLESS, wrong);
+    printf("tried %d, wrong %ld\n", steps > waited && steps < ENDLESS, wrong);
     object_dispose(object);
     return 0;
 }

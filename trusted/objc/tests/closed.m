@@ -3,6 +3,7 @@
 #include "roots.h"
 #include <dlfcn.h>
 #include <pthread.h>
+#include <sched.h>
 #include <stdio.h>
 #include <stdlib.h>
 #include <string.h>
@@ -16,7 +17,7 @@ __attribute__((objc_root_class)) @interface Base { Class isa; }
 + (int)value { return 1; }
 @end
 
-static int wrong, over;
+static int wrong, over, rounds;
 
 static void must(int holds) { if (!holds) __atomic_fetch_add(&wrong, 1, __ATOMIC_SEQ_CST); }
 
@@ -73,9 +74,11 @@ static void take_memory(void)
 
 static void *use(void *none)
 {
-    while (!__atomic_load_n(&over, __ATOMIC_SEQ_CST))
+    while (!__atomic_load_n(&over, __ATOMIC_SEQ_CST)) {
         for (int module = 0; module < MODULES_COUNT; module++)
             if (objc_lookUpClass(named("Closed", module))) look(module);
+        __atomic_fetch_add(&rounds, 1, __ATOMIC_SEQ_CST);
+    }
     return none;
 }
 
@@ -89,6 +92,8 @@ int main(void)
             open_and_close(module);
             take_memory();
             look(module);
+            int is = __atomic_load_n(&rounds, __ATOMIC_SEQ_CST);
+            while (__atomic_load_n(&rounds, __ATOMIC_SEQ_CST) == is) sched_yield();
         }
     __atomic_store_n(&over, 1, __ATOMIC_SEQ_CST);
     pthread_join(thread, NULL);

@@ -32,7 +32,7 @@ int main(void)
     object = class_createInstance(large, 0); /* it has the room of the larger */
     SEL first = sel_registerName("one");
     pthread_create(&thread, NULL, flip, NULL);
-    for (double until = now() + 1; now() < until || ((!of[0] || !of[1]) && now() < until + 30);)
+    for (double until = now() + 1; now() < until || ((!of[0] || !of[1]) && now() < until + 100);)
         for (int i = 0; i < TURNS; i++) {
             id copy = object_copy(object, 0);
             of[copy->isa == large]++;

@@ -7,7 +7,7 @@
 #include <sys/wait.h>
 #include <unistd.h>
 
-enum { FORKS = 40, THREADS = 4, SECONDS = 10 };
+enum { FORKS = 40, THREADS = 4, SECONDS = 60 };
 
 __attribute__((objc_root_class)) @interface Base { Class isa; id kept; }
 + (int)value;

@@ -2,6 +2,7 @@
  * 2,000 of them while another thread sends. */
 #include "roots.h"
 #include <pthread.h>
+#include <sched.h>
 #include <stdio.h>
 #include <string.h>
 
@@ -16,7 +17,7 @@
 
 enum { MADE = 2000 };
 
-static int stop;
+static int stop, sends;
 static long two(id self, SEL sel) { return 2; }
 static const char *kind(id self, SEL sel) { return "made"; }
 
@@ -25,6 +26,7 @@ static void *work(void *object)
     size_t wrong = 0;
     while (!__atomic_load_n(&stop, __ATOMIC_SEQ_CST))
         if ([(Maker *)object number] != 1) wrong++;
+        else __atomic_fetch_add(&sends, 1, __ATOMIC_SEQ_CST);
     return (void *)wrong;
 }
 
@@ -41,6 +43,8 @@ static int make_many(Class maker)
         if ([object number] != 2 || strcmp(object_getClassName(object), name)) wrong++;
         object_dispose(object);
         maker = i % 5 ? made : objc_getClass("Maker");
+        int is = __atomic_load_n(&sends, __ATOMIC_SEQ_CST);
+        while (i % 100 == 0 && __atomic_load_n(&sends, __ATOMIC_SEQ_CST) == is) sched_yield();
     }
     return wrong;
 }

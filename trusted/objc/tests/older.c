@@ -5,7 +5,7 @@
 #include <stdio.h>
 #include <string.h>
 
-enum { PARTS = 64, COPIES = 200000, PAGE = 256 };
+enum { PARTS = 64, COPIES = 200000, WRITES = 200000, PAGE = 256 };
 
 struct large { long parts[PARTS]; };
 
@@ -15,7 +15,7 @@ struct placed { _Alignas(PAGE) char room[PAGE + sizeof(struct large)]; };
 #define AT(placed, place) ((struct large *)&(placed).room[16 * (place)])
 
 static struct placed shared;
-static int asked, ended;
+static int asked, ended, writes[2];
 
 static Class find(const char *name)
 {
@@ -29,22 +29,28 @@ static Class find_nothing(const char *name)
     return NULL;
 }
 
-static void *write_all(void *place)
+static void *write_all(void *count)
 {
     struct placed room;
-    struct large *own = AT(room, *(const int *)place);
+    struct large *own = AT(room, count == writes ? 1 : 14);
     for (long value = 0; !__atomic_load_n(&ended, __ATOMIC_ACQUIRE); value++) {
         for (int i = 0; i < PARTS; i++) own->parts[i] = value;
         objc_copyStruct(AT(shared, 8), own, sizeof *own, 1, 0);
+        __atomic_fetch_add((int *)count, 1, __ATOMIC_RELAXED);
     }
     return NULL;
 }
 
-/* How many copies were of more than one value. */
+static bool is_written(int writer)
+{
+    return __atomic_load_n(&writes[writer], __ATOMIC_RELAXED) >= WRITES;
+}
+
+/* How many copies were of more than one value, beside many that were written. */
 static int read_all(void)
 {
     int mixed = 0;
-    for (int i = 0; i < COPIES; i++) {
+    for (int i = 0; i < COPIES || !is_written(0) || !is_written(1); i++) {
         struct placed room;
         struct large *own = AT(room, i % 2 ? 15 : 0);
         objc_copyStruct(own, AT(shared, 8), sizeof *own, 1, 0);
@@ -55,12 +61,11 @@ static int read_all(void)
 
 static void tell_copies(void)
 {
-    static const int places[] = {1, 14};
     int from[3] = {1, 2, 3}, to[3] = {0, 0, 0};
     pthread_t writers[2];
     objc_copyStruct(to, from, 2 * sizeof *to, 0, 0);
     printf("copied %d %d %d\n", to[0], to[1], to[2]);
-    for (int i = 0; i < 2; i++) pthread_create(&writers[i], NULL, write_all, (void *)&places[i]);
+    for (int i = 0; i < 2; i++) pthread_create(&writers[i], NULL, write_all, &writes[i]);
     printf("mixed %d\n", read_all());
     __atomic_store_n(&ended, 1, __ATOMIC_RELEASE);
     for (int i = 0; i < 2; i++) pthread_join(writers[i], NULL);

@@ -1,6 +1,7 @@
 /* A timer's handler sends beside a thread that sends the same messages, in each way, all of which
  * lie at one place of its notes: as where a program is sampled. Each answer is its own method's. */
 #include "places.h"
+#include <errno.h>
 #include <signal.h>
 
 enum {
@@ -10,12 +11,13 @@ enum {
     TURNS = 200,
     EVERY = 60000,
     ENOUGH = 100,
-    PATIENCE = 30
+    PATIENCE = 100
 };
 
 static SEL sels[KINDS];
 static id object;
 static long wrong, handled, many;
+static timer_t timer;
 
 static id zero(id self, SEL sel, ...) { (void)self; (void)sel; return (id)0; }
 static id three(id self, SEL sel, ...) { (void)self; (void)sel; return (id)3; }
@@ -46,12 +48,21 @@ static void send_all(void)
     wrong += (long)objc_msg_lookup_super(&above, sels[1])(object, sels[1]) != 11;
 }
 
+/* Until the next, however long it takes itself. */
+static void start_timer(void)
+{
+    timer_settime(timer, 0, &(struct itimerspec){.it_value = {0, EVERY}}, NULL);
+}
+
 static void handle(int signal)
 {
+    int kept = errno;
     (void)signal;
     if (many) send_all();
     else wrong += send(object, sels[1]) != 11;
     count(&handled);
+    start_timer(); /* which may be deleted by now */
+    errno = kept;
 }
 
 static void go_on(double seconds, void (*turn)(void))
@@ -75,11 +86,10 @@ int main(void)
     }
     object = class_createInstance(&child, 0);
     send_all();
-    timer_t timer;
     struct sigevent event = {.sigev_notify = SIGEV_SIGNAL, .sigev_signo = SIGALRM};
     signal(SIGALRM, handle);
     timer_create(CLOCK_MONOTONIC, &event, &timer);
-    timer_settime(timer, 0, &(struct itimerspec){{0, EVERY}, {0, EVERY}}, NULL);
+    start_timer();
     go_on(1.5, send_two);
     int enough = get(&handled) >= ENOUGH;
     set(&many, 1);

@@ -8,7 +8,12 @@
 #include <sys/time.h>
 #include <time.h>
 
-enum { KINDS = 64, SECONDS = 2, PATIENCE = 30, ENOUGH = 10, EVERY = 150 };
+enum { KINDS = 64, SECONDS = 2, PATIENCE = 100, ENOUGH = 10 };
+#ifdef SANITIZED /* under which a handler takes longer */
+enum { EVERY = 2000 };
+#else
+enum { EVERY = 150 };
+#endif
 
 __attribute__((objc_root_class)) @interface Base { Class isa; }
 + (int)value;

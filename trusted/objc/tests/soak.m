@@ -83,6 +83,7 @@ static long over, hung, sends, changes, modules, forks, signals, handled, poison
 static long progress[ALL];
 static pthread_t threads[ALL];
 static double length;
+static long half; /* how much memory there is in the end's begin, when modules are over */
 
 static void look(unsigned at)
 {
@@ -248,7 +249,7 @@ static void load(char *text, size_t size, int number)
     unlink(path);
 }
 
-/* All in the first half. */
+/* All in the first half, on a machine that has the time. */
 static void *load_on(void *at)
 {
     static char whole[TEXT], text[TEXT];
@@ -257,7 +258,7 @@ static void *load_on(void *at)
     for (int number = 1; !get(&over); usleep(1000)) {
         count(at);
         rest();
-        if (number > MADE || now() < start + number * length / 2 / MADE) continue;
+        if (get(&half) || number > MADE || now() < start + number * length / 2 / MADE) continue;
         memcpy(text, whole, size);
         load(text, size, number++);
         count(&modules);
@@ -340,6 +341,12 @@ static void watch(void)
     }
 }
 
+static int is_little(void)
+{
+    return !get(&modules) || (FORKS && !get(&forks)) || !get(&changes) ||
+           (shim_process_rest && !get(&poisons));
+}
+
 static void make_classes(void)
 {
     take();
@@ -378,13 +385,12 @@ int main(int words, char **word)
                                                    : fork_on;
         pthread_create(&threads[i], NULL, goes_on, &progress[i]);
     }
-    long half = 0;
     double start = now(), told = start;
-    while (now() < start + length) {
+    while (now() < start + length || (is_little() && now() < start + length + PATIENCE)) {
         usleep(50000);
         watch();
         rest();
-        if (!half && now() > start + 0.6 * length) half = kilobytes();
+        if (!half && now() > start + 0.6 * length && get(&modules)) set(&half, kilobytes());
         if (now() < told + 10) continue;
         told = now();
         fprintf(stderr, "%3.0f s: %ld KiB, %ld forks, wrong %ld\n", told - start, kilobytes(),
@@ -401,8 +407,6 @@ int main(int words, char **word)
     grown = 0;
 #endif
     printf("each went on %d, wrong %ld, hung %ld, grown %d\n",
-           modules > 0 && (forks > 0) == FORKS && changes > 0 &&
-               (poisons > 0) == (shim_process_rest != NULL),
-           wrong, hung, grown > GROWTH);
+           !is_little(), wrong, hung, grown > GROWTH);
     return 0;
 }

@@ -7,7 +7,7 @@
 #include <pthread.h>
 #include <sched.h>
 
-enum { LISTS = 10000, THREADS = 4, BEGIN = 1 << 24 };
+enum { LISTS = 10000, SOME = 100, THREADS = 4, BEGIN = 1 << 24 };
 
 static SEL first, second;
 static long half[2], mixed[2], wrong, sends;
@@ -41,6 +41,12 @@ static void *send_on(void *none)
     return none;
 }
 
+/* A thread has looked from then on, and that's over. */
+static void wait_for_sends(void)
+{
+    for (long most = told(&sends) + THREADS; told(&sends) <= most;) sched_yield();
+}
+
 static void swap(long to)
 {
     IMP imp = (IMP)(BEGIN + to);
@@ -48,8 +54,10 @@ static void swap(long to)
                                       {&child_meta, second, imp, "@16@0:8"}};
     if (get(&one_by_one)) {
         class_replaceMethod(&root_meta, first, imp, "@16@0:8");
+        if (to % SOME == 0) wait_for_sends();
         class_replaceMethod(&child_meta, second, imp, "@16@0:8");
     } else if (objc_replace_methods(rows, 2) != 2) count(&wrong);
+    if (to % SOME == 0) wait_for_sends();
 }
 
 int main(void)
@@ -60,12 +68,11 @@ int main(void)
     take();
     first = sel_registerName("first");
     second = sel_registerName("second");
-    swap(to);
+    swap(++to);
     for (int i = 0; i < THREADS; i++) pthread_create(&threads[i], NULL, send_on, NULL);
-    while (told(&sends) < 100) sched_yield();
     while (++to <= LISTS) swap(to);
     __atomic_store_n(&one_by_one, 1, __ATOMIC_SEQ_CST);
-    while (++to <= 2 * LISTS || (!(told(&half[1]) && told(&mixed[1])) && to < 20 * LISTS)) swap(to);
+    while (++to <= 2 * LISTS) swap(to);
     __atomic_store_n(&over, 1, __ATOMIC_SEQ_CST);
     for (int i = 0; i < THREADS; i++) pthread_join(threads[i], NULL);
     fprintf(stderr, "%ld pairs; half of a swap: %ld by lists, %ld one by one; at once %ld, %ld\n",

@@ -6,9 +6,9 @@
 #include <sys/wait.h>
 #include <unistd.h>
 
-enum { MOMENT = 100000, PATIENCE = 20, EARLY = 5, DONE = 7 };
+enum { MOMENT = 100000, PATIENCE = 60, EARLY = 5, DONE = 7 };
 
-static int value, answers[2];
+static int value, begun, answers[2];
 static pid_t child;
 static pthread_t beside;
 
@@ -20,6 +20,7 @@ __attribute__((objc_root_class)) @interface Base { Class isa; }
 
 static void *send_beside(void *answer)
 {
+    __atomic_store_n(&begun, 1, __ATOMIC_SEQ_CST);
     *(int *)answer = [Below value];
     return NULL;
 }
@@ -30,6 +31,7 @@ static void *send_beside(void *answer)
     child = fork();
     if (!child) alarm(PATIENCE);
     pthread_create(&beside, NULL, send_beside, &answers[1]);
+    while (!__atomic_load_n(&begun, __ATOMIC_SEQ_CST)) usleep(1000);
     usleep(MOMENT);
     value = EARLY;
 }

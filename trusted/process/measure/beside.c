@@ -1,5 +1,5 @@
 /* Senders that find beside changes: millions of lookups a second, and how many changes were made.
- * Of tools/measure/beside. */
+ * Of tools/measure/process. */
 #include "msg_runtime.h"
 #include <pthread.h>
 #include <stdatomic.h>

@@ -1,4 +1,4 @@
-/* What replacements take one by one, and as a list: tools/measure/lists. Each call on the runtime
+/* What replacements take one by one, and as a list: tools/measure/process. Each call on the runtime
  * is made under a lock, as in a host with threads.
  *
  *     lists time WINDOWS ROUNDS          for each size: the medians of nanoseconds a round, one by

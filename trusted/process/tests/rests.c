@@ -14,7 +14,7 @@
 #include <sys/wait.h>
 #include <unistd.h>
 
-enum { CLASS, SEL = 1, THREADS = 8, CHANGES = 2000, ROOM = 64, PAGE = 4096 };
+enum { CLASS, SEL = 1, THREADS = 8, CHANGES = 2000, READS = 2000, ROOM = 64, PAGE = 4096 };
 enum { ROUNDS = 2 }; /* of a thread's destructors, in which finds count */
 
 /* ThreadSanitizer ends a thread before its last destructors, and has no threads in a child. */
@@ -286,6 +286,9 @@ static void *live_on(void *seed)
     return NULL;
 }
 
+/* Lives end by their length, too. What is wrong ends the changes. */
+static bool is_little(void) { return !wrong && (reads < READS || ends < 2 * THREADS); }
+
 static void all_at_once(void)
 {
     pthread_t threads[THREADS];
@@ -296,7 +299,7 @@ static void all_at_once(void)
     change(first);
     for (uintptr_t i = 0; i < THREADS; i++) pthread_create(&threads[i], NULL, live_on, (void *)i);
     while (!reads) sched_yield();
-    for (uint32_t next = first + 1; next < first + CHANGES; next++) {
+    for (uint32_t next = first + 1; next < first + CHANGES || is_little(); next++) {
         new_page(next);
         since[(next - 1) % ROOM] = change(next); /* the page before is left by this one */
         do {
@@ -308,7 +311,6 @@ static void all_at_once(void)
     for (int i = 0; i < THREADS; i++) pthread_join(threads[i], NULL);
     MUST(!msg_process_seen_by_all(&seen, &thread));
     MUST(thread == 0);
-    MUST(reads > 0 && ends > 0);
 }
 
 int main(void)

@@ -436,7 +436,7 @@ static void fork_beside_asking(void)
 
 int main(void)
 {
-    alarm(100);
+    alarm(220);
     pthread_atfork(let_run, NULL, NULL);
     texts();
     before_start();

@@ -5,8 +5,10 @@
 #include <sched.h>
 #include <stdatomic.h>
 #include <stdio.h>
+#include <time.h>
 
 enum { LISTS = 8000, FINDERS = 3, COUNT = 3, CLASS = 0, OTHER = 1, OTHERS = 2, A = 1, B = 2 };
+enum { ROUNDS = 1000, PATIENCE = 100 };
 
 static const msg_lookup_row lookups[COUNT] = {{CLASS, 0, A}, {OTHER, 1, B}, {OTHER, 0, A}};
 static msg_runtime runtime = MSG_RUNTIME_INIT;
@@ -95,6 +97,8 @@ static void noted(msg_sender *sender)
     if (msg_probe_all(sender, lookups, COUNT, imps, COUNT, &place) != MSG_MISSED) wrong++;
 }
 
+static bool is_little(void) { return !mixed[0] || rounds[0] < ROUNDS || rounds[1] < ROUNDS; }
+
 int main(void)
 {
     static msg_sender sender = MSG_SENDER_INIT;
@@ -109,15 +113,16 @@ int main(void)
     noted(&sender);
     for (int i = 0; i < 2 * FINDERS; i++)
         pthread_create(&threads[i], NULL, find_on, i % 2 ? &threads : NULL);
-    while (rounds[0] < 100 || rounds[1] < 100) sched_yield();
-    while (++to <= LISTS || (!mixed[0] && to < 100 * LISTS)) {
+    while (!rounds[0] || !rounds[1]) sched_yield();
+    time_t end = time(NULL) + PATIENCE;
+    while (++to <= LISTS || (is_little() && time(NULL) < end)) {
         change(to);
         if (to % 8 == 0) sched_yield(); /* so that some of it is found without the lock */
     }
     is_over = true;
     for (int i = 0; i < 2 * FINDERS; i++) pthread_join(threads[i], NULL);
     must(msg_sender_close(&runtime, &sender));
-    printf("several: %ld wrong, %ld mixed as one, %s one by one\n", wrong, mixed[1],
-           mixed[0] ? "some" : "none");
-    return wrong || mixed[1];
+    printf("several: %ld wrong, %ld mixed as one, %s\n", wrong, mixed[1],
+           is_little() ? "too little was tried" : "some one by one");
+    return wrong || mixed[1] || is_little();
 }

@@ -11,7 +11,7 @@
 #include <ucontext.h>
 #include <unistd.h>
 
-enum { TRAP = 1 << 8, COPY_SECONDS = 20 };
+enum { TRAP = 1 << 8, COPY_SECONDS = 60 };
 
 static volatile long step; /* how many handlers came */
 

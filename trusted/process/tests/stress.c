@@ -28,7 +28,7 @@
 #include <unistd.h>
 
 enum { FINDERS = 16, CHANGERS = 4, BEGINNERS = 6, SENDERS = 26, CLASSES = 512, TREES = 4 };
-enum { METHODS = 16, PATIENCE = 60 };
+enum { METHODS = 16, PATIENCE = 200, CHILDS_PATIENCE = 60 };
 #ifndef SECONDS
 #define SECONDS 5
 #endif
@@ -325,7 +325,7 @@ static void child(bool has_sender)
     msg_runtime *runtime;
     uint64_t changes, thread_number = 1;
     wrong = 0;
-    alarm(PATIENCE);
+    alarm(CHILDS_PATIENCE);
     rest(below(2));
     want(msg_process_seen_by_all(&changes, &thread_number), MSG_DONE);
     if (thread_number) tell("in a child another holds old code, by number", (long)thread_number, 0);

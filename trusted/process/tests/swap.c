@@ -6,7 +6,7 @@
 #include <stdatomic.h>
 #include <stdio.h>
 
-enum { SWAPS = 10000, FINDERS = 4, CLASS = 0, OTHER = 1, A = 1, B = 2 };
+enum { SWAPS = 10000, SOME = 100, FINDERS = 4, CLASS = 0, OTHER = 1, A = 1, B = 2 };
 
 static atomic_bool is_over, is_one_by_one;
 static atomic_long older[2], wrong, pairs;
@@ -52,13 +52,21 @@ static void change(const msg_change *parts, size_t count)
     msg_process_unlock();
 }
 
+/* A thread has found A and B from then on. */
+static void wait_for_pairs(void)
+{
+    for (long most = pairs + FINDERS; pairs <= most;) sched_yield();
+}
+
 static void swap(uint32_t to)
 {
     const msg_change parts[] = {part(CLASS, A, to), part(OTHER, B, to)};
     if (is_one_by_one) {
         change(&parts[0], 1);
+        if (to % SOME == 0) wait_for_pairs();
         change(&parts[1], 1);
     } else change(parts, 2);
+    if (to % SOME == 0) wait_for_pairs();
 }
 
 int main(void)
@@ -73,15 +81,14 @@ int main(void)
     uint32_t to = 1;
     swap(to);
     for (int i = 0; i < FINDERS; i++) pthread_create(&threads[i], NULL, find_on, NULL);
-    while (pairs < 100) sched_yield();
     while (++to <= SWAPS) swap(to);
     is_one_by_one = true;
-    while (++to <= 2 * SWAPS || (!older[1] && to < 100 * SWAPS)) swap(to);
+    while (++to <= 2 * SWAPS) swap(to);
     is_over = true;
     for (int i = 0; i < FINDERS; i++) pthread_join(threads[i], NULL);
     fprintf(stderr, "%ld pairs of finds; an old B after a new A: %ld by lists, %ld one by one\n",
             (long)pairs, (long)older[0], (long)older[1]);
-    printf("swap: %ld wrong, %ld mixed by lists, %s one by one\n", (long)wrong, (long)older[0],
-           older[1] ? "some" : "none");
+    printf("swap: %ld wrong, %ld mixed by lists, %s\n", (long)wrong, (long)older[0],
+           older[1] ? "some one by one" : "too little was tried");
     return wrong || older[0] || !older[1];
 }

@@ -14,7 +14,7 @@
 #include <time.h>
 #include <unistd.h>
 
-enum { CLASS, A = 1, B = 2, ROOM = 1 << 17, LEAST = 1000, PATIENCE = 120, MILLISECONDS = 2000 };
+enum { CLASS, A = 1, B = 2, ROOM = 1 << 17, LEAST = 1000, PATIENCE = 220, MILLISECONDS = 2000 };
 
 static struct slot { uint64_t words[4]; } table[ROOM];
 static msg_runtime runtime = MSG_RUNTIME_INIT;

@@ -1,5 +1,8 @@
 //! Each call of the header through the safe crate, each kind of fault, and threads beside changes.
-use std::sync::atomic::{AtomicBool, Ordering};
+use std::sync::{
+    atomic::{AtomicBool, Ordering},
+    Barrier,
+};
 use yeldrost::{
     Change, ClassRef, Config, Fault, Imp, Method, Probed, Refused, Runtime, Selector, Sender, Texts,
 };
@@ -386,12 +389,14 @@ fn threads_beside_changes() {
     fn is_send<T: Send>(_: &T) {}
     let runtime = opened();
     let over = AtomicBool::new(false);
+    let all_began = Barrier::new(4);
     std::thread::scope(|threads| {
         for _ in 0..3 {
             let mut sender: Sender = runtime.sender().unwrap();
             is_send(&sender);
-            let over = &over;
+            let (over, all_began) = (&over, &all_began);
             threads.spawn(move || {
+                all_began.wait();
                 while !over.load(Ordering::SeqCst) {
                     let found = sender.find(CHILDREN, s(NAME)).unwrap().unwrap().get();
                     assert!([3, 8].contains(&found));
@@ -399,6 +404,7 @@ fn threads_beside_changes() {
                 assert_eq!(Ok(Some(i(8))), sender.find(CHILDREN, s(NAME)));
             });
         }
+        all_began.wait();
         for at in 0..1001 {
             runtime
                 .lock()

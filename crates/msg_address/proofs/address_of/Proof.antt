@@ -18,7 +18,7 @@ use Rattle.msg_address.proofs.address_of.Code as code
 abbrev after_block : Body
 after_block = seq (assign (place 0 []) (rv_opd (copy (place 4 [])))) return
 
--- the first field lies where the struct does
+-- the first field lies at the address of the struct
 at_start : {M : Type 1} {𝓤 : Ura M} {𝓛 : Logic 𝓤} {K : Type 0} {i : Item 𝓤} {q : Share} {τ : Ty} {b o : ℕ} {v : Val} {back : Val → Item 𝓤} → Part K 𝓛 i q τ b (o + 0) v back → Part K 𝓛 i q τ b o v back
 at_start {M} {𝓤} {𝓛} {K} {i} {q} {τ} {b} {o} {v} {back} p = let here : o + 0 ≡ o = omega arith in subst (λ (k : ℕ). Part K 𝓛 i q τ b k v back) here p
 

@@ -1,8 +1,8 @@
 //! What is wrong with bodies.
 //!
-//! Bodies are most of a large document. One walk looks for all faults of a body, when it was read
-//! and still lies near. Only a body that names classes or objects is walked over again, to look
-//! these names up.
+//! Bodies are most of a large document. One walk looks for all faults of a body right after the
+//! body was read, while it is still in the processor's cache. Only a body that names classes or
+//! objects is walked over again, to look up these names.
 
 ghost use Rattle.std.specs.Prelude.{◌≡◌, ◌&&◌, false, not};
 ghost use Rattle.std.specs.List.{list_any};
@@ -21,7 +21,7 @@ use crate::form_names::FormNames;
 use crate::name_set::NameSet;
 use std::alloc::Global;
 
-/// Which faults some body has.
+/// The faults that some body has.
 #[derive(Clone, Copy)]
 pub(crate) struct BodyFaults {
     /// A super send in a method of a root class.
@@ -43,9 +43,9 @@ const NO_FAULTS: BodyFaults = BodyFaults {
     too_deep: false,
 };
 
-/// What a look at a body finds when it is read: the faults that it has at its worst, in a method of
-/// a root class, where no class and no object has a name; and whether it has texts at places of
-/// selectors.
+/// Looks at a body when it is read. It finds the faults that the body has in the worst case: in a
+/// method of a root class, if no class and no object has a name. It also finds whether the body has
+/// texts at places of selectors.
 pub(crate) fn looked_at(alloc: Global, body: &Expr, args: u8) -> Found
     ensures worst { AreWorst result.faults args (expr_view body.now) }
     ensures selects { result.selects ≡ has_texts (expr_view body.now) }
@@ -60,7 +60,7 @@ pub(crate) fn looked_at(alloc: Global, body: &Expr, args: u8) -> Found
     walk.found(NO_FAULTS, body)
 }
 
-/// Which faults the bodies of a form have.
+/// The faults that the bodies of a form have.
 pub(super) fn body_faults(form: &Form, names: &FormNames) -> BodyFaults
     requires { AreNamesOf names.now (form_view form.now) }
     ensures { AreBodyFaults result (form_view form.now) }
@@ -114,7 +114,7 @@ impl Known<'_, '_> {
         }
     }
 
-    /// Looks the names of a body up.
+    /// Adds the faults of a body whose names are looked up.
     fn with_names(&self, faults: BodyFaults, imp: &Imp) -> BodyFaults
         ensures { AreAdded self.now.roots.now self.now.classes.now self.now.objects.now
             faults result (imp_view imp.now) }
@@ -128,8 +128,8 @@ impl Known<'_, '_> {
         walk.found(faults, &imp.body).faults
     }
 
-    /// A body that names no class and no object has its worst faults, but for those of a root
-    /// class.
+    /// Adds the faults of a body that names no class and no object. They are its worst faults, but
+    /// for a super send above a root class.
     fn with_worst(&self, faults: BodyFaults, imp: &Imp) -> BodyFaults
         requires class { imp.now.worst.unknown_class ≡ false }
         requires object { imp.now.worst.unknown_object ≡ false }

@@ -1,4 +1,4 @@
-//! One walk over a body, which looks at each expression once. It takes no memory.
+//! One walk over a body, which visits each expression once. It takes no memory.
 
 ghost use Rattle.std.specs.Prelude.{◌≡◌, fold};
 ghost use Rattle.msg_form.specs.BodyWalk as spec;
@@ -17,12 +17,12 @@ pub(crate) struct Found {
     pub(crate) faults: BodyFaults,
     /// Whether there is a text at a place of a selector.
     pub(crate) selects: bool,
-    /// How many more expressions there may be.
+    /// The number of expressions that may still come.
     room: u32,
 }
 
 impl Found {
-    /// Goes on to an expression, from which on there may be so many levels.
+    /// Goes on to an expression that may have this number of levels.
     fn enter(&mut self, levels: u32)
         ensures { self.new ≡ spec.entered levels self.old }
     {
@@ -43,7 +43,7 @@ pub(super) struct BodyWalk<'s, 'v> {
 }
 
 impl BodyWalk<'_, '_> {
-    /// What a whole body adds to faults.
+    /// Adds what the whole body has to the faults.
     pub(super) fn found(&self, faults: BodyFaults, body: &Expr) -> Found
         ensures { result ≡ fold (spec.with_part_by self.now) (spec.with_faults faults)
             (spec.parts_at MAX_DEPTH (expr_view body.now)) }
@@ -57,7 +57,7 @@ impl BodyWalk<'_, '_> {
         found
     }
 
-    /// Looks at an expression and those inside it, where there may be so many levels.
+    /// Looks at an expression and those inside it, which may have this number of levels.
     #[cycle(visit)]
     fn visit(&self, expr: &Expr, levels: u32, found: &mut Found)
         ensures { found.new
@@ -94,7 +94,7 @@ impl BodyWalk<'_, '_> {
         }
     }
 
-    /// Looks at an expression, and not at those inside it.
+    /// Looks at an expression, but not at those inside it.
     fn look(&self, expr: &Expr, levels: u32, found: &mut Found)
         ensures { found.new
             ≡ spec.with_part_by self.now found.old (levels, expr_view expr.now) }

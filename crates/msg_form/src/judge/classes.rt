@@ -63,8 +63,8 @@ fn has_late_superclass(alloc: Global, classes: &[Class]) -> Result<bool, AllocEr
     any_late(&mut earlier, classes)
 }
 
-/// Whether a class has a superclass that is none of the earlier ones, to which the classes are
-/// added.
+/// Whether a class has a superclass that is not among the earlier classes. Adds the classes to
+/// them.
 fn any_late<'v>(earlier: &mut NameSet<'v>, classes: &[Class<'v>]) -> Result<bool, AllocError>
     ensures { IfOk result (λ b. b ≡ spec.has_late_superclass earlier.old (classes_view classes.now)) }
 {

@@ -1,4 +1,4 @@
-//! Whether argument counts and selectors' colons differ.
+//! Whether the number of arguments and the colons of a selector differ.
 
 ghost use Rattle.std.specs.Prelude.{◌≡◌, IfOk};
 ghost use Rattle.std.specs.List.{list_any};
@@ -49,11 +49,11 @@ fn has_miscounted_pair(alloc: Global, form: &Form, imps: &NameSet) -> Result<boo
     Ok(any(&test, &lists))
 }
 
-/// The test of a pair whose implementation takes more or fewer arguments than its selector has
+/// Tests whether the implementation of a pair takes more or fewer arguments than its selector has
 /// colons.
 #[derive(Drop)]
 struct Miscounted<'n, 'w, 'i, 'v> {
-    /// The names of the implementations, each in its place.
+    /// The names of the implementations, in their order.
     names: &'n NameSet<'w>,
     imps: &'i [Imp<'v>],
 }
@@ -77,7 +77,7 @@ impl<'f, 'v> Test<&'f [Pair<'v>]> for Miscounted<'_, '_, '_, '_> {
     }
 }
 
-/// How many arguments the implementation at a name's place takes.
+/// The number of arguments that the implementation at a name's place takes.
 fn args_at(names: &NameSet, imps: &[Imp], name: &str) -> Option<u8>
     ensures { result ≡ args_at names.now (imps_view imps.now) name.now }
 {
@@ -94,14 +94,14 @@ fn colons(text: &str) -> usize
     text.as_bytes().iter().filter(|b| **b == b':').count()
 }
 
-/// Whether so many arguments don't fit the selector's colons.
+/// Whether a number of arguments differs from the number of the selector's colons.
 pub fn is_miscounted_send(selector: &str, count: usize) -> bool
     ensures { result ≡ spec.is_miscounted_send (selector.now, count) }
 {
     count != colons(selector)
 }
 
-/// The test of a send whose arguments are more or fewer than its selector's colons.
+/// Tests whether a send has more or fewer arguments than its selector has colons.
 #[derive(Drop)]
 struct IsMiscounted;
 

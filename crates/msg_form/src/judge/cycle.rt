@@ -1,4 +1,4 @@
-//! Whether superclasses stand in a cycle.
+//! Whether superclasses form a cycle.
 
 ghost use Rattle.std.specs.Prelude.{◌≡◌, ◌≤◌, length, map, option_map, IfOk};
 ghost use Rattle.msg_form.specs.Faults as spec;

@@ -1,4 +1,4 @@
-//! The version, and whether a document has too much of something.
+//! The version and the limits of a document.
 
 ghost use Rattle.std.specs.Prelude.{◌≡◌, length, nat_lt, IfOk};
 ghost use Rattle.std.specs.List.{flat_map};

@@ -1,6 +1,7 @@
 //! What is wrong with the names that a document cites.
 //!
-//! Each check goes once over the parts that cite such names. What bodies cite was looked up before.
+//! Each check goes once over the parts that cite such names. The names in bodies were looked up
+//! before.
 
 ghost use Rattle.std.specs.Prelude.{◌≡◌, ◌++◌, map, IfOk};
 ghost use Rattle.std.specs.List.{list_any};
@@ -25,7 +26,7 @@ use std::alloc::{AllocError, Global};
 
 // ---- classes
 
-/// The test of what names a class beyond the set.
+/// Tests whether a part names a class that is not in the set.
 #[derive(Drop)]
 pub(super) struct ClassOutside<'s, 'v> {
     pub(super) classes: &'s NameSet<'v>,
@@ -112,7 +113,7 @@ pub(super) fn has_unknown_class(form: &Form, names: &FormNames, bodies: BodyFaul
     names_class_outside(&names.classes, form)
 }
 
-/// Whether a category or an implementation has a class beyond the set.
+/// Whether a category or an implementation has a class that is not in the set.
 fn has_home_outside(classes: &NameSet, form: &Form) -> bool
     ensures { result ≡ list_any (is_unknown classes.now) (home_classes (form_view form.now)) }
 {
@@ -120,7 +121,7 @@ fn has_home_outside(classes: &NameSet, form: &Form) -> bool
     any(&test, &form.categories) || any(&test, &form.imps)
 }
 
-/// Whether a class beyond the set is named outside of bodies.
+/// Whether a part outside of bodies names a class that is not in the set.
 fn names_class_outside(classes: &NameSet, form: &Form) -> bool
     ensures { result ≡ list_any (is_unknown classes.now) (other_classes (form_view form.now)) }
 {
@@ -130,7 +131,7 @@ fn names_class_outside(classes: &NameSet, form: &Form) -> bool
 
 // ---- objects
 
-/// The test of what names an object beyond the set.
+/// Tests whether a part names an object that is not in the set.
 #[derive(Drop)]
 struct ObjectOutside<'s, 'v> {
     objects: &'s NameSet<'v>,
@@ -172,7 +173,7 @@ pub(super) fn has_unknown_object(form: &Form, names: &FormNames, bodies: BodyFau
 
 // ---- implementations
 
-/// The test of what names an implementation beyond the set.
+/// Tests whether a part names an implementation that is not in the set.
 #[derive(Drop)]
 struct ImpOutside<'s, 'v> {
     imps: &'s NameSet<'v>,

@@ -36,7 +36,7 @@ impl<'v> FormNames<'v> {
         self.classes.lacks(name)
     }
 
-    /// Whether a listed class of the name has no superclass.
+    /// Whether a listed class with the name has no superclass.
     #[tactic(auto, using(crate::proofs::TextLemmas::any_distinct))]
     pub fn has_root(&self, name: &str) -> bool
         ensures { (f : plain.Form) → AreNamesOf self.now f

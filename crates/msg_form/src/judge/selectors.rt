@@ -14,7 +14,7 @@ use crate::name_set::NameSet;
 use msg_names::is_selector_name;
 use std::alloc::{AllocError, Global};
 
-/// Whether one of the set isn't the name of a selector.
+/// Whether a text of the set isn't the name of a selector.
 pub(super) fn has_bad_selector(selectors: &NameSet) -> bool
     ensures { result ≡ list_any (λ t. not (is_selector_name t)) selectors.now }
 {

@@ -1,4 +1,4 @@
-//! Reading changes and items.
+//! Reads changes and items.
 
 ghost use Rattle.std.specs.Prelude.{◌≡◌, ◌+◌, ◌≤◌, codes, false, map, length, option_map};
 ghost use Rattle.msg_json.specs.View.{view};
@@ -17,7 +17,7 @@ use crate::form::{Change, Item, MethodName};
 use msg_json::{Bump, Tree, get, has_keys};
 use std::alloc::Global;
 
-/// A method's name, which takes three values from a place on.
+/// Reads a method's name, which takes three values from a place on.
 #[tactic(auto, unfolding(crate::specs::Shape::method_form_of))]
 fn method<'v>(values: &[Tree<'v, '_>], place: usize) -> Option<MethodName<'v>>
     requires { place + 3 ≤ length values.now }
@@ -30,7 +30,7 @@ fn method<'v>(values: &[Tree<'v, '_>], place: usize) -> Option<MethodName<'v>>
     })
 }
 
-/// What `add`, `replace` and `set` say of a method.
+/// Reads the method and the implementation of `add`, `replace` or `set`.
 #[tactic(auto, unfolding(crate::specs::Shape::edit_of))]
 fn edit<'v>(values: &[Tree<'v, '_>]) -> Option<(MethodName<'v>, &'v str)>
     ensures { option_map (λ e. (method_view e.0, e.1.now)) result ≡ spec.edit_of (map view values.now) }
@@ -112,7 +112,7 @@ fn dispose<'v>(values: &[Tree<'v, '_>]) -> Option<Change<'v>>
     })
 }
 
-/// A change that takes no lists.
+/// Reads a change that has no lists.
 #[tactic(auto, unfolding(crate::specs::Shape::worded_change_of))]
 fn plain_change<'v>(word: &str, values: &[Tree<'v, '_>]) -> Option<Change<'v>>
     requires { is_word word.now (codes "attach") ≡ false }
@@ -176,7 +176,7 @@ impl<'v> FromValue<'v> for Change<'v> {
     }
 }
 
-/// The changes that stand behind the word `all`.
+/// Reads the changes after the word `all`.
 #[tactic(auto, unfolding(crate::specs::Shape::all_of))]
 fn all<'v>(
     alloc: Global,
@@ -191,7 +191,7 @@ fn all<'v>(
     each(alloc, bump, &values[1..])
 }
 
-/// The item that changes what the value says.
+/// Reads an item that is a change.
 #[tactic(auto, unfolding(crate::specs::Shape::change_item_of))]
 pub fn change_item<'v>(
     alloc: Global,
@@ -212,7 +212,7 @@ pub fn change_item<'v>(
     Ok(Item::Change(worded_change(alloc, bump, word, values)?))
 }
 
-/// The item that sends what the value says.
+/// Reads an item that is a send.
 #[tactic(auto, unfolding(crate::specs::Shape::send_item_of))]
 pub fn send_item<'v>(
     alloc: Global,

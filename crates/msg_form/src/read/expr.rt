@@ -1,4 +1,4 @@
-//! Reading constants and expressions. A body is read once, from the outside in.
+//! Reads constants and expressions. A body is read once, from the outside in.
 
 ghost use Rattle.std.specs.Prelude.{◌≡◌, ◌≤◌, Some, map, length, option_map};
 ghost use Rattle.msg_json.specs.View.{view};
@@ -125,7 +125,7 @@ fn expr<'v>(alloc: Global, bump: &'v Bump, value: &Tree<'v, '_>) -> Result<Expr<
     }
 }
 
-/// The expression at a place.
+/// Reads the expression at a place.
 #[cycle(expr)]
 #[tactic(auto, using(crate::proofs::ExprShapeLemmas::reading_there))]
 fn expr_in<'v>(
@@ -172,7 +172,7 @@ fn listed<'v>(alloc: Global, bump: &'v Bump, values: &[Tree<'v, '_>]) -> Result<
     }
 }
 
-/// The expressions at two places.
+/// Reads the expressions at two places.
 #[cycle(expr)]
 fn two<'v>(
     alloc: Global,
@@ -254,7 +254,7 @@ fn super_send<'v>(
     kept_super(bump, selector, args)
 }
 
-/// The expressions from a place on.
+/// Reads the expressions from a place on.
 #[cycle(expr)]
 fn exprs<'v>(
     alloc: Global,
@@ -272,7 +272,7 @@ fn exprs<'v>(
     kept(bump, &exprs)
 }
 
-/// The constants that the values spell.
+/// Reads the constants that the values spell.
 pub(super) fn constants<'v>(
     alloc: Global,
     bump: &'v Bump,
@@ -284,7 +284,7 @@ pub(super) fn constants<'v>(
     kept(bump, &constants)
 }
 
-// ---- what is large, in the arena
+// ---- large parts, in the arena
 
 #[inline(always)]
 fn kept_constant<'v>(bump: &'v Bump, constant: Constant<'v>) -> Result<Expr<'v>, ReadFault>

@@ -1,4 +1,4 @@
-//! Reading the parts of a document.
+//! Reads the parts of a document.
 
 ghost use Rattle.std.specs.Prelude.{◌≡◌, ◌≤◌, [], codes, option_map, IfSome};
 ghost use Rattle.msg_json.specs.View.{view};
@@ -150,7 +150,7 @@ impl<'v> FromValue<'v> for Object<'v> {
     }
 }
 
-/// How many arguments an implementation takes.
+/// Reads the number of arguments that an implementation takes.
 #[tactic(auto, unfolding(crate::specs::Shape::args_of, crate::specs::Json::whole_of))]
 fn arg_count(value: &Tree<'_, '_>) -> Option<u8>
     ensures number { result ≡ spec.args_of (view value.now) }
@@ -257,7 +257,7 @@ fn has_later(items: &[Item]) -> bool
 }
 
 impl<'v> Form<'v> {
-    /// The form that a JSON value spells.
+    /// Reads the form that a JSON value spells.
     #[tactic(auto, unfolding(crate::specs::Shape::form_of, crate::specs::Json::whole_of))]
     pub fn read(alloc: Global, bump: &'v Bump, value: &Tree<'v, '_>) -> Result<Form<'v>, ReadFault>
         ensures { Gives form_view result (spec.form_of (view value.now)) }
@@ -284,7 +284,7 @@ impl<'v> Form<'v> {
         }
     }
 
-    // The lists stay where they are, so that none is dropped where another can't be read.
+    // The lists stay in place, so that none is dropped if another can't be read.
     fn fill(&mut self, alloc: Global, bump: &'v Bump, value: &Tree<'v, '_>) -> Result<(), ReadFault>
         requires { self.old.made.items ≡ [] }
         ensures { Fills self.new result (spec.form_by self.old.version (view value.now)) }
@@ -298,7 +298,7 @@ impl<'v> Form<'v> {
         }
     }
 
-    /// Fills in a form of version 1, which makes no classes and no changes as one.
+    /// Fills in a form of version 1, which has no `made` and no changes as one.
     #[tactic(auto, using(crate::proofs::AnyLemmas::anys), unfolding(crate::specs::Shape::first_form_of))]
     fn fill_first(
         &mut self,
@@ -319,7 +319,7 @@ impl<'v> Form<'v> {
         Ok(())
     }
 
-    /// Fills in a form of version 2, which makes no changes as one.
+    /// Fills in a form of version 2, which has no changes as one.
     #[tactic(auto, using(crate::proofs::AnyLemmas::anys), unfolding(crate::specs::Shape::second_form_of))]
     fn fill_second(
         &mut self,
@@ -353,7 +353,7 @@ impl<'v> Form<'v> {
         self.fill_parts(alloc, bump, value)
     }
 
-    /// Fills in what the versions share.
+    /// Fills in the parts that the versions share.
     #[tactic(auto, unfolding(crate::specs::Shape::parts_of))]
     fn fill_parts(
         &mut self,

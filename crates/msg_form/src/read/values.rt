@@ -1,4 +1,4 @@
-//! Looking into a JSON value for what it spells.
+//! Reads values inside a JSON value.
 
 ghost use Rattle.std.specs.Prelude.{◌≡◌, map, option_map, slice_get};
 ghost use Rattle.serde_json.specs.Find.{as_bool, as_str};
@@ -60,7 +60,7 @@ fn text<'v>(value: &Tree<'v, '_>) -> Option<&'v str>
     }
 }
 
-/// The name of a class, an object or an implementation.
+/// Reads the name of a class, an object or an implementation.
 #[tactic(auto, unfolding(crate::specs::Json::name_of))]
 pub(super) fn name<'v>(value: &Tree<'v, '_>) -> Option<&'v str>
     ensures { option_map (λ s. s.now) result ≡ spec.name_of (view value.now) }

@@ -90,7 +90,7 @@ loop-turn-preserved c =
           (swept_next z k0 j had (take i all) k has a v.swept inside);
     }
 
--- where no array is retired
+-- if no array is retired
 pub returns-then-not-has_retired-clause-collects : goal.returns-then-not-has_retired-clause-collects
 returns-then-not-has_retired-clause-collects c =
     let key = c.args.arena.now.key in

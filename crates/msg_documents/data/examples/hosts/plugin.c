@@ -9,6 +9,7 @@ enum { SQUARE, TILE, AREA = 1, OWN = 1, BROUGHT, TIMES = 1000, THREADS = 3, PART
 static msg_runtime runtime = MSG_RUNTIME_INIT;
 static pthread_mutex_t lock = PTHREAD_MUTEX_INITIALIZER;
 static atomic_bool is_over;
+static atomic_int sending;
 
 static const msg_change plugin[PARTS] = {
     {.kind = MSG_MAKES_CLASS, .number = TILE, .other = SQUARE},
@@ -35,6 +36,7 @@ static uint32_t area(msg_sender *sender, uint32_t number)
 static void *work(void *sender)
 {
     size_t wrong = 0;
+    sending++;
     while (!is_over) {
         uint32_t tile = area(sender, TILE), square = area(sender, SQUARE);
         wrong += tile != 0 && tile != BROUGHT;
@@ -80,6 +82,7 @@ int main(void)
     printf("a tile's area is %u, a square's %u\n", area(&seats[0].sender, TILE),
            area(&seats[0].sender, SQUARE));
     for (int i = 0; i < THREADS; i++) pthread_create(&threads[i], NULL, work, &seats[i].sender);
+    while (sending < THREADS) {}
     for (int i = 0; i < TIMES; i++) {
         come(back, &count);
         go(back, count);

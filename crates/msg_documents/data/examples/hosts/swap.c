@@ -8,6 +8,7 @@ enum { SQUARE, AREA = 1, OLD = 1, NEW, SWAPS = 1001, THREADS = 3 };
 static msg_runtime runtime = MSG_RUNTIME_INIT;
 static pthread_mutex_t lock = PTHREAD_MUTEX_INITIALIZER;
 static atomic_bool is_over;
+static atomic_int sending;
 
 static void must(uint32_t fault)
 {
@@ -27,6 +28,7 @@ static uint32_t area(msg_sender *sender)
 static void *work(void *sender)
 {
     size_t wrong = 0;
+    sending++;
     while (!is_over) {
         uint32_t imp = area(sender);
         wrong += imp != OLD && imp != NEW;
@@ -44,6 +46,7 @@ int main(void)
     must(msg_add(&runtime, SQUARE, false, AREA, OLD));
     for (int i = 0; i < THREADS; i++) must(msg_sender_open(&runtime, &seats[i].sender));
     for (int i = 0; i < THREADS; i++) pthread_create(&threads[i], NULL, work, &seats[i].sender);
+    while (sending < THREADS) {}
     for (int i = 0; i < SWAPS; i++) {
         pthread_mutex_lock(&lock);
         must(msg_replace(&runtime, SQUARE, false, AREA, i % 2 ? OLD : NEW));

@@ -1,5 +1,5 @@
 use Rattle.std.proofs.Common.{◌≡◌, take}
-use Rattle.msg_tables.specs.Methods.{method_numbers}
+use Rattle.msg_rows.specs.Methods.{method_numbers}
 use Rattle.msg_host.specs.Asking.{pairs_of}
 use Rattle.msg_host.proofs.changing.method_list.Given as goal
 

@@ -1,7 +1,7 @@
 use Rattle.std.proofs.Common.{◌≡◌, ◌<◌, ◌≤◌, ◌-◌, ◌+◌, ◌++◌, ℕ, suc, length, reverse, take, drop, sym, ap, ◌∙◌, arith}
 use Rattle.std.specs.Prelude.{slice_set, slice_index_or}
 use Rattle.std.proofs.lemmas.List.{get_or-map, get_or-reverse, length-map, length-reverse, length-set, map-set}
-use Rattle.msg_tables.specs.Methods.{method_number, method_numbers}
+use Rattle.msg_rows.specs.Methods.{method_number, method_numbers}
 use Rattle.msg_host.specs.Asking.{pairs_of}
 use Rattle.msg_host.specs.declared.changing.MethodRow.{MethodRow}
 use Rattle.msg_host.proofs.ContentsLemmas.{one-more-written}

@@ -1,7 +1,7 @@
 use Rattle.std.proofs.Common.{◌≡◌, ◌++◌, drop}
 use Rattle.msg_form.specs.Views.{pairs_view}
 use Rattle.msg_image.specs.Document.{methods}
-use Rattle.msg_tables.specs.Methods.{method_numbers}
+use Rattle.msg_rows.specs.Methods.{method_numbers}
 use Rattle.msg_image.specs.Numbers.{numbers_by}
 use Rattle.msg_image.proofs.resolve.methods.Given as goal
 

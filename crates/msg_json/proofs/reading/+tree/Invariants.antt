@@ -16,7 +16,7 @@ decreases-values l = 2 * l.depth + 1
 abbrev pub decreases-members : goal.decreases-members
 decreases-members l = 2 * l.depth + 1
 
--- What this list has so far stands last on the stack.
+-- The values of this list so far are the last on the stack.
 abbrev pub invariant-values-items : goal.invariant-values-items
 invariant-values-items l =
     (n : ℕ) × (found : List Tree) × (length l.reader ≤ n) × (l.stack.values.items ≡ l.fn.stack.values.items ++ found)
@@ -26,7 +26,7 @@ invariant-values-items l =
 abbrev pub decreases-values-items : goal.decreases-values-items
 decreases-values-items l = length l.reader
 
--- What this object has so far stands last on the stack.
+-- The members of this object so far are the last on the stack.
 abbrev pub invariant-members-members : goal.invariant-members-members
 invariant-members-members l =
     (n : ℕ) × (found : List Entry) × (length l.reader ≤ n) × (l.stack.members.items ≡ l.fn.stack.members.items ++ found)

@@ -1,4 +1,4 @@
--- one sender more
+-- one more sender
 use Rattle.std.proofs.Common.{set, true, ◌∙◌, ap, arith}
 use Rattle.msg_model.proofs.EffectLemmas.{everyone_step}
 use Rattle.msg_model.proofs.awaited.everyone.Goals as goal

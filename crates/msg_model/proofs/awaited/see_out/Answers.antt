@@ -1,4 +1,4 @@
--- one array more
+-- one more array
 use Rattle.msg_model.specs.Steps.{seen_out}
 use Rattle.msg_model.proofs.EffectLemmas.{map_step}
 use Rattle.msg_model.proofs.awaited.see_out.Goals as goal

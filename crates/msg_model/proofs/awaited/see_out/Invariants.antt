@@ -1,4 +1,4 @@
--- those so far are noted
+-- the arrays so far are noted
 use Rattle.std.proofs.Common.{◌≡◌, ◌++◌, take, drop, map}
 use Rattle.msg_model.specs.Steps.{seen_out}
 use Rattle.msg_model.proofs.awaited.see_out.Given as goal

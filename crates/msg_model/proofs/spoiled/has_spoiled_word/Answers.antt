@@ -1,4 +1,4 @@
--- a word that will not agree is some word that will not
+-- if a word will not agree, some word will not
 use Rattle.std.proofs.Common.{◌<◌, ◌∙◌, sym, ap, subst, slice_index, length}
 use Rattle.std.specs.Prelude.{◌&&◌}
 use Rattle.msg_tables.specs.Log.{lookup, and_then}

@@ -1,7 +1,7 @@
 -- the first entry of the selector is its own row
 use Rattle.std.proofs.Common.{sym, ◌∙◌, ap, reverse}
 use Rattle.msg_names.specs.Number.{selector_number}
-use Rattle.msg_tables.specs.RowList.{own_in}
+use Rattle.msg_rows.specs.RowList.{own_in}
 use Rattle.msg_tables.proofs.ForeseeLemmas.{listed_found}
 use Rattle.msg_tables.proofs.foresee.listed.Goals as goal
 

@@ -1,8 +1,8 @@
 -- none so far has the selector
 use Rattle.std.proofs.Common.{◌≡◌, None, reverse, take}
 use Rattle.msg_names.specs.Number.{selector_number}
-use Rattle.msg_tables.specs.Methods.{method_numbers}
-use Rattle.msg_tables.specs.RowList.{own_in}
+use Rattle.msg_rows.specs.Methods.{method_numbers}
+use Rattle.msg_rows.specs.RowList.{own_in}
 use Rattle.msg_tables.proofs.foresee.listed.Given as goal
 
 abbrev pub invariant-loop-pair : goal.invariant-loop-pair

@@ -1,7 +1,7 @@
 -- what is written, and else the class's own method
 use Rattle.std.proofs.Common.{sym, ap, option_map, ◌∙◌}
 use Rattle.msg_names.specs.Number.{selector_number, imp_number}
-use Rattle.msg_tables.specs.RowList.{own_in}
+use Rattle.msg_rows.specs.RowList.{own_in}
 use Rattle.msg_tables.specs.Log.{table}
 use Rattle.msg_tables.proofs.LookupLemmas.{own-pairs_at}
 use Rattle.msg_tables.proofs.ForeseeLemmas.{own_seen, own_kept}

@@ -2,7 +2,7 @@ use Rattle.std.proofs.Common.{◌≡◌, true, sym, ap, subst, ◌∙◌}
 use Rattle.msg_names.specs.Number.{selector_number}
 use Rattle.msg_tables.specs.After.{rows_after}
 use Rattle.msg_tables.specs.Log.{table}
-use Rattle.msg_tables.specs.RowList.{own_in, without_row}
+use Rattle.msg_rows.specs.RowList.{own_in, without_row}
 use Rattle.msg_tables.specs.Rows.{own}
 use Rattle.msg_tables.specs.Written.{row_leaves}
 use Rattle.msg_tables.proofs.ForeseeLemmas.{own_gone, own_removed}

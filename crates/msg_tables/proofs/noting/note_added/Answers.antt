@@ -3,7 +3,7 @@ use Rattle.std.specs.Prelude.{reverse}
 use Rattle.std.specs.Slice.Iter.{iter_rest}
 use Rattle.msg_names.specs.declared.value.Selector.{Selector}
 use Rattle.msg_tables.specs.Journal.{added_all}
-use Rattle.msg_tables.specs.Methods.{method_numbers}
+use Rattle.msg_rows.specs.Methods.{method_numbers}
 use Rattle.msg_tables.specs.declared.entry.Entry.{Entry}
 use Rattle.msg_tables.specs.declared.entry.Entry.TheVariants.{Added}
 use Rattle.msg_tables.proofs.UndoJournalLemmas.{noted-next}

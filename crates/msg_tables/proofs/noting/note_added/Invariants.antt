@@ -3,7 +3,7 @@ use Rattle.std.specs.Prelude.{reverse}
 use Rattle.std.specs.Slice.Iter.{iter_rest}
 use Rattle.std.specs.Vec.{vec_capacity}
 use Rattle.msg_tables.specs.Journal.{added_all}
-use Rattle.msg_tables.specs.Methods.{method_numbers}
+use Rattle.msg_rows.specs.Methods.{method_numbers}
 use Rattle.msg_tables.proofs.noting.note_added.Given as goal
 
 abbrev pub invariant-loop-sel : goal.invariant-loop-sel

@@ -2,7 +2,7 @@ use Rattle.std.proofs.Common.{◌≡◌, ap, sym, ◌∙◌, subst, arith, lengt
 use Rattle.std.specs.Vec.{vec_capacity}
 use Rattle.msg_names.specs.ClassRef.{slot_of}
 use Rattle.msg_tables.specs.Journal.{CanGoBack}
-use Rattle.msg_tables.proofs.RoomLemmas.{CanPut, can-put, length-put_at}
+use Rattle.msg_rows.proofs.RoomLemmas.{CanPut, can-put, length-put_at}
 use Rattle.msg_tables.proofs.take_back.unwrite.Goals as goal
 use Rattle.msg_tables.proofs.take_back.unwrite.Goals.{After-slot-in-Removed}
 

@@ -2,9 +2,9 @@ use Rattle.std.proofs.Common.{◌≡◌, ◌++◌, ◌∷◌, [], refl, sym, ap,
 use Rattle.std.specs.Option.{option_to_list}
 use Rattle.msg_names.proofs.TestLemmas.{neither}
 use Rattle.msg_tables.specs.Journal.{AllFitBack, CanAllGoBack, lists_before, supers_before, order_before, before_all}
-use Rattle.msg_tables.specs.RowList.{rooms_of, rows_of}
+use Rattle.msg_rows.specs.RowList.{rooms_of, rows_of}
 use Rattle.std.specs.Vec.{vec_capacity}
-use Rattle.msg_tables.proofs.RoomLemmas.{grown-on, grown-same}
+use Rattle.msg_rows.proofs.RoomLemmas.{grown-on, grown-same}
 use Rattle.msg_tables.proofs.JournalLemmas.{before-append, fit-all, fit-back, fit-front, supers-kept}
 use Rattle.msg_tables.proofs.take_back.unwrite_all.Goals as goal
 

@@ -1,10 +1,10 @@
 use Rattle.std.proofs.Common.{◌≡◌, ◌≤◌, false, length}
 use Rattle.std.specs.Vec.{vec_capacity}
 use Rattle.msg_tables.specs.Journal.{CanAllGoBack, lists_before, supers_before, order_before, before_all}
-use Rattle.msg_tables.specs.RowList.{KeepRoom, rows_of}
+use Rattle.msg_rows.specs.RowList.{KeepRoom, rows_of}
 use Rattle.msg_tables.proofs.take_back.unwrite_all.Given as goal
 
--- what is left to be taken back gives what all of it did
+-- what is left to be taken back gives the same as all of it did
 abbrev pub invariant-loop-entry : goal.invariant-loop-entry
 invariant-loop-entry l = record {
   supers : before_all supers_before l.journal.items l.supers.items ≡ before_all supers_before l.initial.journal.items l.initial.supers.items;

@@ -18,7 +18,7 @@ returns-in-Some-free_array-clause-fills c =
     let k = keeper_of c.args.self.now.seat.me.0 in
     let j = keeper_of c.collect-freed.new.self.seat.me.0 in
     fills_grown z c.args.self.now.remembered.items c.args.class (selector_number c.args.selector) (imp_number c.args.implementation) c.in-Take.capacity c.collect-freed.result k j (keeper_of c.grow-in-Some-free_array.new.self.seat.me.0)
-    (sym c.way.ensures.way ∙ c.in-Take.is) (sym c.free_array.ensures.lowest ∙ c.in_default.is) c.collect-freed.ensures.collects c.in-Some-free_array.array
+    (sym c.placement.ensures.placement ∙ c.in-Take.is) (sym c.free_array.ensures.lowest ∙ c.in_default.is) c.collect-freed.ensures.collects c.in-Some-free_array.array
     (sym c.free_array-in-Take.ensures.lowest ∙ c.in-Some-free_array.is) c.grow-in-Some-free_array.ensures.view
 
 pub returns-in_default-free_array-clause-fills : goal.returns-in_default-free_array-clause-fills
@@ -27,4 +27,4 @@ returns-in_default-free_array-clause-fills c =
     let k = keeper_of c.args.self.now.seat.me.0 in
     let j = keeper_of c.collect-freed.new.self.seat.me.0 in
     fills_none z c.args.self.now.remembered.items c.args.class (selector_number c.args.selector) (imp_number c.args.implementation) c.in-Take.capacity c.collect-freed.result k j j
-    (sym c.way.ensures.way ∙ c.in-Take.is) (sym c.free_array.ensures.lowest ∙ c.in_default.is) c.collect-freed.ensures.collects (sym c.free_array-in-Take.ensures.lowest ∙ c.in_default-free_array.is) refl
+    (sym c.placement.ensures.placement ∙ c.in-Take.is) (sym c.free_array.ensures.lowest ∙ c.in_default.is) c.collect-freed.ensures.collects (sym c.free_array-in-Take.ensures.lowest ∙ c.in_default-free_array.is) refl

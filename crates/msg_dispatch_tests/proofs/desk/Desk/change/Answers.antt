@@ -1,4 +1,4 @@
--- the tables stand at the longer history
+-- the tables are at the longer history
 use Rattle.std.proofs.Common.{rules, ◌≡◌, [], ◌∷◌, length, ap, sym, subst, ◌∙◌}
 use Rattle.std.specs.Arc.{arc_value}
 use Rattle.msg_tables.specs.Log as logs

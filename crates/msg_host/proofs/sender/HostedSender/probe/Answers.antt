@@ -20,4 +20,4 @@ pub returns-in-Some-clause-noted : goal.returns-in-Some-clause-noted
 returns-in-Some-clause-noted c =
     let asked = c.in_ok-class.ensures.ok in
     let sel = ap selector_number asked.2 ∙ named c.class_count.result c.args.class c.args.sel c.in_ok-class.ensures.none in
-    subst (λ (x : ClassRef × ℕ × ℕ). HaveNotedSince c.find.new.notes x.0 x.1 c.find.new.self.seen x.2) (λ k. (asked.1 k, sel k, sym c.number.ensures k)) c.in-Some.ensures.noted
+    subst (λ (x : ClassRef × ℕ × ℕ). HaveNotedSince c.try_find.new.notes x.0 x.1 c.try_find.new.self.seen x.2) (λ k. (asked.1 k, sel k, sym c.number.ensures k)) c.in-Some.ensures.noted

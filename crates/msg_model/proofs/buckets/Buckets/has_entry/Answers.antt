@@ -1,4 +1,4 @@
--- a word that isn't 0 is some word that isn't
+-- if a word isn't 0, some word isn't
 use Rattle.std.proofs.Common.{◌≡◌, length, slice_index, sym, ◌∙◌, ap, true, arith}
 use Rattle.std.proofs.lemmas.List.{get_or_read_under}
 use Rattle.msg_model.specs.Steps.{some_below, is_entry}

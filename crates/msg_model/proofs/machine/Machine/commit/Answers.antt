@@ -1,4 +1,4 @@
--- the tables stand at the longer history
+-- the tables are at the longer history
 use Rattle.std.specs.Result.{OnOk, is_err}
 use Rattle.std.proofs.Common.{rules, [], ◌∷◌, ◌++◌, ◌≡◌, Bool, false, Result, Ok, Err, true≢false, subst, sym, ◌∙◌}
 use Rattle.msg_tables.specs.Log as logs

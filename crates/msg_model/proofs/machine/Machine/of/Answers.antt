@@ -1,4 +1,4 @@
--- each list is as it is made
+-- each list is what it was made with
 use Rattle.std.proofs.Common.{[], ◌∷◌, map, ◌≡◌, ◌*◌, rules, replicate, length, sym, ap, ◌∙◌, subst}
 use Rattle.std.specs.Prelude.{None}
 use Rattle.msg_tables.specs.History.{log}

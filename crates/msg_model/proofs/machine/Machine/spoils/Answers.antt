@@ -1,4 +1,4 @@
--- an array that is spoiled is some array that is
+-- if an array is spoiled, some array is
 use Rattle.std.proofs.Common.{[], ◌∷◌, ◌<◌, ◌∙◌, sym, ap, subst, length, map}
 use Rattle.msg_tables.specs.History.{lookup, and_then}
 use Rattle.msg_model.specs.State.{capacity}

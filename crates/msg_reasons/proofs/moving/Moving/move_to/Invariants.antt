@@ -7,7 +7,7 @@ use Rattle.msg_reasons.specs.Moving.{IsAt, KeepsNotes}
 use Rattle.msg_reasons.specs.declared.moving.Moving.{Moving}
 use Rattle.msg_reasons.proofs.moving.Moving.move_to.Given as goal
 
--- the tables stand at a history from which the same point is reached
+-- the tables are at a history from which the same point is reached
 abbrev pub IsOnTheWay : ℕ → Moving → Moving → Type 0
 IsOnTheWay version old now =
     (h : History) → IsAt old h → (g : History) × IsAt now g × (point_of version g (map item_parts now.left.now) ≡ point_of version h (map item_parts old.left.now))

@@ -1,4 +1,4 @@
--- the tables stand at the longer history, and what the list affects is flushed
+-- the tables are at the longer history, and what the list affects is flushed
 use Rattle.std.proofs.Common.{rules, ◌≡◌, ◌≤◌, ◌||◌, [], ◌∷◌, length, length-append, true, false, Bool, ap, sym, subst, refl, ◌∙◌, arith}
 use Rattle.msg_tables.specs.History.{History, and_then, log}
 use Rattle.msg_tables.specs.Origin.{class_total}
@@ -20,7 +20,7 @@ either false b e = e
 pub commit_all-requires-clause-accepted : goal.commit_all-requires-clause-accepted
 commit_all-requires-clause-accepted g c =
     let h = keeper_history c.self.inside.keeper in
-    let same : keeper_history c.flush_changed.new.keeper ≡ h = c.flush_changed.ensures.history ∙ ap (λ (k : KeeperView). k.history) c.face.ensures.same in
+    let same : keeper_history c.flush_changed.new.keeper ≡ h = c.flush_changed.ensures.history in
     ap (λ (k : History). refusal_of_all (log k) (g.L.ChangeList.changes c.args.changes.now)) same ∙ none-refused (log h) (g.L.ChangeList.changes c.args.changes.now) (c.in_default.ensures.ok (log h) c.self.invariant.tables).0
 
 pub invariant_of-self-2 : goal.invariant_of-self-2
@@ -28,9 +28,9 @@ invariant_of-self-2 g c =
     let xs = g.L.ChangeList.changes c.args.changes.now in
     let was = c.self.invariant in
     let h = keeper_history c.self.inside.keeper in
-    let same : keeper_history c.flush_changed.new.keeper ≡ h = c.flush_changed.ensures.history ∙ ap (λ (k : KeeperView). k.history) c.face.ensures.same in
+    let same : keeper_history c.flush_changed.new.keeper ≡ h = c.flush_changed.ensures.history in
     let longer : keeper_history c.commit_all.new.self ≡ and_then h xs = ap (λ (k : KeeperView). k.history) c.commit_all.ensures.committed ∙ ap (λ (k : History). and_then k xs) same in
-    let given = ap (λ (k : KeeperView). k.given) c.commit_all.ensures.committed ∙ ap (λ q. q.0) c.flush_changed.ensures.seats ∙ ap (λ (k : KeeperView). k.given) c.face.ensures.same in
+    let given = ap (λ (k : KeeperView). k.given) c.commit_all.ensures.committed ∙ ap (λ q. q.0) c.flush_changed.ensures.seats in
     let keeper : IsKeeperOf c.self.inside.arena.value c.commit_all.new.self = search rules in
     let room : c.self.inside.classes ≤ c.flush_changed.new.below.room = search rules in
     record {
@@ -41,7 +41,7 @@ invariant_of-self-2 g c =
       room = room;
       rests = rests_on (keeper_view c.self.inside.keeper) (keeper_view c.commit_all.new.self) c.self.inside.rested.items
           given
-          (ap (λ (k : KeeperView). k.since) c.commit_all.ensures.committed ∙ ap (λ q. q.1) c.flush_changed.ensures.seats ∙ ap (λ (k : KeeperView). k.since) c.face.ensures.same)
+          (ap (λ (k : KeeperView). k.since) c.commit_all.ensures.committed ∙ ap (λ q. q.1) c.flush_changed.ensures.seats)
           (omega (arith, ap (λ (k : History). length k.changes) longer, length-append h.changes (xs ∷ [])))
           was.rests;
       full = full_on (keeper_view c.self.inside.keeper) (keeper_view c.commit_all.new.self) c.self.inside.full given was.full;

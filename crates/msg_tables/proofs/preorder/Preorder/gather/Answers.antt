@@ -1,4 +1,4 @@
--- The walk, over classes of which these stand in such an order.
+-- The walk, over classes in such an order.
 use Rattle.std.proofs.Common.{◌≡◌, ◌<◌, ◌++◌, List, [], ◌∷◌, ℕ, Option, Some, None, length, length-append, true, sym, ap, ◌∙◌, subst, arith}
 use Rattle.std.proofs.lemmas.List.{get_or_read}
 use Rattle.msg_tables.specs.Chain.{is_present}

@@ -13,6 +13,6 @@ invariant-loop-at l = record {
   walks : (supers : List (Option Presence)) → HavePreorder supers l.self.depths.items l.self.nexts.items → is_present supers l.class ≡ true → Walks supers l.self.depths.items l.self.nexts.items l.class l.classes.items l.at;
 }
 
--- each turn gathers a class
+-- each turn collects a class
 abbrev pub decreases-loop-at : goal.decreases-loop-at
 decreases-loop-at l = length l.self.depths.items - length l.classes.items

@@ -2,7 +2,7 @@ use Rattle.std.proofs.Common.{◌≡◌, ◌<◌, ℕ, List, [], ◌∷◌, ◌+
 use Rattle.std.specs.Prelude.{slice_set, slice_index_or}
 use Rattle.std.proofs.lemmas.Bool.Decides.{nat_tests}
 use Rattle.msg_names.specs.Number.{selector_number, imp_number}
-use Rattle.msg_tables.specs.RowList.{rows_of}
+use Rattle.msg_rows.specs.RowList.{rows_of}
 use Rattle.msg_tables.specs.After.{rows_at}
 use Rattle.msg_tables.specs.Stands.{Holds}
 use Rattle.msg_names.specs.ClassRef.{slot_of}

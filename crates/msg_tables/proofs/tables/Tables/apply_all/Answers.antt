@@ -5,7 +5,7 @@ use Rattle.msg_tables.specs.Journal.{NamesListed}
 use Rattle.msg_tables.proofs.NoteLemmas.{listed-all}
 use Rattle.msg_tables.proofs.AffectedAllLemmas.{told-all}
 use Rattle.msg_tables.proofs.PresenceLemmas.{ordered}
-use Rattle.msg_tables.proofs.ReservedLemmas.{if_ok}
+use Rattle.msg_rows.proofs.ReservedLemmas.{if_ok}
 use Rattle.msg_tables.proofs.SeveralLemmas.{accepted-none}
 use Rattle.msg_tables.proofs.tables.Tables.apply_all.Goals as goal
 

@@ -9,7 +9,7 @@ use Rattle.msg_tables.proofs.WantLemmas.{held-next, held-none, wants-next}
 use Rattle.msg_tables.proofs.WayLemmas.{length-undo}
 use Rattle.msg_tables.proofs.MakingLemmas.{accepted-next, at-place, made-kept, made-none, made-next, refused-place}
 use Rattle.msg_tables.specs.Making.{IsMade}
-use Rattle.msg_tables.proofs.RoomLemmas.{grown-on, grown-same}
+use Rattle.msg_rows.proofs.RoomLemmas.{grown-on, grown-same}
 use Rattle.msg_tables.proofs.SeveralLemmas.{accepted-none}
 use Rattle.msg_tables.proofs.tables.Tables.apply_each.Goals as goal
 

@@ -1,7 +1,7 @@
 use Rattle.std.proofs.Common.{◌≤◌, take}
 use Rattle.std.specs.Vec.{vec_capacity}
 use Rattle.msg_tables.specs.View.{IsWithinRoom}
-use Rattle.msg_tables.specs.RowList.{HaveGrown}
+use Rattle.msg_rows.specs.RowList.{HaveGrown}
 use Rattle.msg_tables.specs.Making.{AreHeld, IsMade}
 use Rattle.msg_tables.proofs.tables.Tables.apply_each.Given as goal
 

@@ -1,7 +1,7 @@
 use Rattle.std.proofs.Common.{◌≡◌, Some, length, ap, ◌∙◌, subst, inl, arith}
 use Rattle.std.specs.Vec.{vec_capacity}
 use Rattle.msg_names.specs.ClassRef.{slot_of}
-use Rattle.msg_tables.proofs.RoomLemmas.{within-room}
+use Rattle.msg_rows.proofs.RoomLemmas.{within-room}
 use Rattle.msg_tables.proofs.WantLemmas.{undo-count, wants-rows, within-kept}
 use Rattle.msg_tables.specs.Journal.{Journals}
 use Rattle.std.proofs.lemmas.Result.{err_from_is_err_and}

@@ -1,7 +1,7 @@
 use Rattle.std.proofs.Common.{ap, sym, ◌∙◌}
 use Rattle.std.specs.Prelude.{is_some}
 use Rattle.msg_names.specs.Number.{selector_number, imp_number}
-use Rattle.msg_tables.specs.RowList.{own_in}
+use Rattle.msg_rows.specs.RowList.{own_in}
 use Rattle.msg_tables.specs.Log.{table}
 use Rattle.msg_tables.specs.Refusal.{has_own}
 use Rattle.msg_tables.proofs.LookupLemmas.{own-pairs_at, is_some-map}

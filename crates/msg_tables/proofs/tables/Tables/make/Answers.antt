@@ -10,8 +10,8 @@ use Rattle.msg_tables.proofs.PlacedLemmas.{made-ready, made-preorder}
 use Rattle.msg_tables.specs.declared.entry.Entry.TheVariants.{Made}
 use Rattle.msg_tables.specs.Journal.{order_before}
 use Rattle.msg_tables.proofs.JournalLemmas.{back-supers, back-order}
-use Rattle.msg_tables.specs.RowList.{rooms_of}
-use Rattle.msg_tables.proofs.RoomLemmas.{grown-same}
+use Rattle.msg_rows.specs.RowList.{rooms_of}
+use Rattle.msg_rows.proofs.RoomLemmas.{grown-same}
 use Rattle.msg_tables.proofs.tables.Tables.make.Goals as goal
 
 pub unwrap-requires : goal.unwrap-requires

@@ -1,6 +1,6 @@
 use Rattle.std.proofs.Common.{◌≡◌, List, [], ap, ◌∙◌}
 use Rattle.std.specs.Prelude.{slice_index_or}
-use Rattle.msg_tables.specs.RowList.{rows_of}
+use Rattle.msg_rows.specs.RowList.{rows_of}
 use Rattle.msg_tables.specs.View.{TablesView, kept}
 use Rattle.msg_tables.proofs.tables.Tables.methods.Goals as goal
 

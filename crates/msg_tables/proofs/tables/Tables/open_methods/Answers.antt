@@ -1,7 +1,7 @@
 use Rattle.std.proofs.Common.{◌≡◌, ◌<◌, [], ◌++◌, length, length-append, refl, sym, ap, ◌∙◌, subst, arith}
 use Rattle.std.specs.Prelude.{slice_set, slice_index_or}
-use Rattle.msg_tables.specs.Methods.{method_numbers}
-use Rattle.msg_tables.specs.RowList.{rows_of}
+use Rattle.msg_rows.specs.Methods.{method_numbers}
+use Rattle.msg_rows.specs.RowList.{rows_of}
 use Rattle.msg_tables.specs.After.{rows_at}
 use Rattle.msg_tables.specs.Stands.{Holds}
 use Rattle.msg_names.specs.ClassRef.{slot_of}

@@ -1,6 +1,6 @@
 use Rattle.std.specs.Prelude.{[], slice_index_or}
 use Rattle.msg_names.specs.Number.{selector_number}
-use Rattle.msg_tables.specs.RowList.{rows_of}
+use Rattle.msg_rows.specs.RowList.{rows_of}
 use Rattle.msg_tables.specs.Origin.{last_imp}
 use Rattle.msg_tables.proofs.ListedLemmas.{listed_at, found-listed}
 use Rattle.msg_tables.proofs.tables.Tables.own.Goals as goal

@@ -6,7 +6,7 @@ use Rattle.msg_tables.specs.Journal.{NamesListed}
 use Rattle.msg_tables.specs.Making.{IsMade, MarksTold}
 use Rattle.msg_tables.proofs.NoteLemmas.{listed-all}
 use Rattle.msg_tables.proofs.ReachLemmas.{either-way, reaches-told}
-use Rattle.msg_tables.proofs.ReservedLemmas.{if_ok}
+use Rattle.msg_rows.proofs.ReservedLemmas.{if_ok}
 use Rattle.msg_tables.proofs.SeveralLemmas.{accepted-none}
 use Rattle.msg_tables.proofs.tables.Tables.reach_all.Goals as goal
 

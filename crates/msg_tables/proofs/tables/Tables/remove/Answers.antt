@@ -7,14 +7,14 @@ use Rattle.msg_names.proofs.ClassRefLemmas.{slot_of-inside}
 use Rattle.msg_tables.specs.After.{without_own}
 use Rattle.msg_tables.specs.Journal.{FitsBack, lists_before}
 use Rattle.msg_tables.specs.Origin.{last_imp}
-use Rattle.msg_tables.specs.RowList.{last_index, own_in, rooms_of, rows_of, without_row}
+use Rattle.msg_rows.specs.RowList.{last_index, own_in, rooms_of, rows_of, without_row}
 use Rattle.msg_tables.specs.Stands.{Holds}
 use Rattle.msg_tables.specs.View.{kept}
 use Rattle.msg_tables.specs.declared.entry.Entry.TheVariants.{Removed}
 use Rattle.msg_tables.proofs.EditLemmas.{counted-put, holds-remove, listed-without_row}
 use Rattle.msg_tables.proofs.JournalLemmas.{back-removed, last-inside, length-without_row}
 use Rattle.msg_tables.proofs.PutLemmas.{put-length, put-listed, length-rows_of}
-use Rattle.msg_tables.proofs.RoomLemmas.{within-room}
+use Rattle.msg_rows.proofs.RoomLemmas.{within-room}
 use Rattle.msg_tables.proofs.tables.Tables.remove.Goals as goal
 
 pub invariant_of-self : goal.invariant_of-self

@@ -1,7 +1,7 @@
 use Rattle.std.proofs.Common.{◌≡◌, ◌<◌, [], length, option_map, refl, sym, ap, ◌∙◌, subst, arith}
 use Rattle.std.specs.Prelude.{slice_set, slice_index_or}
 use Rattle.msg_names.specs.Number.{selector_number, imp_number}
-use Rattle.msg_tables.specs.RowList.{own_in, rooms_of, rows_of, set_last}
+use Rattle.msg_rows.specs.RowList.{own_in, rooms_of, rows_of, set_last}
 use Rattle.msg_tables.proofs.EditLemmas.{counted-put, length-set_last}
 use Rattle.msg_tables.specs.After.{set_own}
 use Rattle.msg_tables.specs.Stands.{Holds}

@@ -1,5 +1,5 @@
 use Rattle.msg_names.specs.ClassRef.{slot_of}
-use Rattle.msg_tables.proofs.RoomLemmas.{within-room}
+use Rattle.msg_rows.proofs.RoomLemmas.{within-room}
 use Rattle.msg_tables.proofs.tables.Tables.start.Goals as goal
 
 pub returns-clause-within : goal.returns-clause-within

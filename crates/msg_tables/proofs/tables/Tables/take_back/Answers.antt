@@ -1,8 +1,8 @@
 use Rattle.std.proofs.Common.{◌≡◌, length, sym, ap, ◌∙◌, subst, arith}
 use Rattle.msg_tables.specs.Preorder.{HavePreorder}
-use Rattle.msg_tables.specs.RowList.{rooms_of, rows_of}
+use Rattle.msg_rows.specs.RowList.{rooms_of, rows_of}
 use Rattle.std.specs.Vec.{vec_capacity}
-use Rattle.msg_tables.proofs.RoomLemmas.{grown-same}
+use Rattle.msg_rows.proofs.RoomLemmas.{grown-same}
 use Rattle.msg_tables.proofs.BackLemmas.{kept-again, view-again}
 use Rattle.msg_tables.proofs.JournalLemmas.{fit-all, supers-length}
 use Rattle.msg_tables.proofs.tables.Tables.take_back.Goals as goal

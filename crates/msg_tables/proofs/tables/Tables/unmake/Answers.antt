@@ -5,13 +5,13 @@ use Rattle.msg_tables.specs.Chain.{presence_of}
 use Rattle.msg_tables.specs.Journal.{FitsBack, order_before}
 use Rattle.msg_tables.specs.Order.{IsOrder}
 use Rattle.msg_tables.specs.Preorder.{HavePreorder, is_in}
-use Rattle.msg_tables.specs.RowList.{rooms_of, rows_of}
+use Rattle.msg_rows.specs.RowList.{rooms_of, rows_of}
 use Rattle.msg_tables.specs.declared.entry.Entry.TheVariants.{Disposed}
 use Rattle.msg_tables.specs.declared.presence.Presence.{Presence}
 use Rattle.msg_tables.proofs.DisposedLemmas.{disposed-inside, disposed-order-at, disposed-in, put-back-at, superclass-there, without-parts, without_at}
 use Rattle.msg_tables.proofs.JournalLemmas.{set-as_was, set-twice}
 use Rattle.msg_tables.proofs.OrderLemmas.{count-le, present-inside, read-presence}
-use Rattle.msg_tables.proofs.RoomLemmas.{grown-same}
+use Rattle.msg_rows.proofs.RoomLemmas.{grown-same}
 use Rattle.msg_tables.proofs.tables.Tables.unmake.Goals as goal
 
 pub remove-class-requires : goal.remove-class-requires

@@ -1,0 +1,106 @@
+use Rattle.std.proofs.Common.{◌≡◌, ◌≤◌, ◌∙◌, ℕ, sym, inr, length, arith}
+use Rattle.msg_names.specs.Number.{selector_number, imp_number}
+use Rattle.msg_tables.specs.History.{lookup}
+use Rattle.msg_model.specs.Stamps.{last_affected}
+use Rattle.msg_model.specs.State.{first}
+use Rattle.msg_model.proofs.StampLemmas.{since as stays-since}
+use Rattle.msg_reader.proofs.ReaderLemmas.{as_long, found_unprobed, has_loaded}
+use Rattle.msg_reader.proofs.reader.Reader.try_find_counted.Goals as goal
+
+pub try_find_at-requires-clause-notes : goal.try_find_at-requires-clause-notes
+try_find_at-requires-clause-notes c =
+    let grows = c.notes_are_of_longer_histories.ensures in
+    let saw = c.args.self.now.sender.front in
+    let counted = c.refresh-count.new.self.sender.front in
+    grows c.stamp-since.new.self.sender.front counted c.args.notes.now c.stamp-since.ensures.begins (grows counted saw c.args.notes.now c.refresh-count.ensures.begins c.requires.notes)
+
+pub returns-then-since-count-clause-some : goal.returns-then-since-count-clause-some
+returns-then-since-count-clause-some c =
+    let grows = c.notes_are_of_longer_histories.ensures in
+    let counted = c.refresh-count.new.self.sender.front in
+    let sees = c.stamp-since.new.self.sender.front in
+    let are = grows sees counted c.args.notes.now c.stamp-since.ensures.begins (grows counted c.args.self.now.sender.front c.args.notes.now c.refresh-count.ensures.begins c.requires.notes) in
+    (c.in-Some.ensures.found sees are c.stamp-since.ensures.accepted c.stamp-since.ensures.since).0
+
+pub returns-then-since-count-clause-listed : goal.returns-then-since-count-clause-listed
+returns-then-since-count-clause-listed c =
+    let grows = c.notes_are_of_longer_histories.ensures in
+    let counted = c.refresh-count.new.self.sender.front in
+    let sees = c.stamp-since.new.self.sender.front in
+    let are = grows sees counted c.args.notes.now c.stamp-since.ensures.begins (grows counted c.args.self.now.sender.front c.args.notes.now c.refresh-count.ensures.begins c.requires.notes) in
+    (c.in-Some.ensures.found sees are c.stamp-since.ensures.accepted c.stamp-since.ensures.since).1
+
+-- no change after so many affects the class reference, so it was found after so many
+pub returns-then-since-count-clause-notes : goal.returns-then-since-count-clause-notes
+returns-then-since-count-clause-notes c =
+    let grows = c.notes_are_of_longer_histories.ensures in
+    let counted = c.refresh-count.new.self.sender.front in
+    let sees = c.stamp-since.new.self.sender.front in
+    let ok = c.stamp-since.ensures.accepted in
+    let are = grows sees counted c.args.notes.now c.stamp-since.ensures.begins (grows counted c.args.self.now.sender.front c.args.notes.now c.refresh-count.ensures.begins c.requires.notes) in
+    let told = c.in-Some.ensures.found sees are ok c.stamp-since.ensures.since in
+    let n : ℕ = c.refresh-count.result in
+    let sel : ℕ = selector_number c.args.sel in
+    let last : last_affected sees c.args.class ≤ n = omega (arith, c.if-since-count.true, c.stamp-since.ensures.since) in
+    let within : n ≤ length sees.changes = omega (arith, as_long sees counted c.stamp-since.ensures.begins, c.refresh-count.ensures.length) in
+    let then : imp_number c.in-Some.imp ≡ lookup (first n sees) c.args.class sel = told.0 ∙ sym (stays-since sees c.args.class sel n ok.origin ok.changes last within) in
+    c.keep.ensures.notes sees are within then told.1
+
+pub returns-then-since-count-clause-noted : goal.returns-then-since-count-clause-noted
+returns-then-since-count-clause-noted c = (
+  c.stamp-since.result,
+  has_loaded c.args.class c.stamp-since.result c.refresh-count.new.self.sender c.stamp-since.new.self.sender c.stamp-since.ensures.loaded,
+  λ short. c.keep.ensures.kept c.stamp-since.result c.if-since-count.true short,
+)
+
+pub returns-then-since-count-clause-unprobed : goal.returns-then-since-count-clause-unprobed
+returns-then-since-count-clause-unprobed c =
+    found_unprobed c.args.notes.now c.args.class (selector_number c.args.sel) c.stamp-since.result (imp_number c.in-Some.imp) c.args.self.now.sender c.refresh-count.new.self.sender c.stamp-since.new.self.sender
+    c.refresh-count.ensures.stamps c.refresh-count.ensures.no_probe c.stamp-since.ensures.loaded c.in-Some.ensures.noted
+
+pub returns-else-since-count-clause-some : goal.returns-else-since-count-clause-some
+returns-else-since-count-clause-some c =
+    let grows = c.notes_are_of_longer_histories.ensures in
+    let counted = c.refresh-count.new.self.sender.front in
+    let sees = c.stamp-since.new.self.sender.front in
+    let are = grows sees counted c.args.notes.now c.stamp-since.ensures.begins (grows counted c.args.self.now.sender.front c.args.notes.now c.refresh-count.ensures.begins c.requires.notes) in
+    (c.in-Some.ensures.found sees are c.stamp-since.ensures.accepted c.stamp-since.ensures.since).0
+
+pub returns-else-since-count-clause-listed : goal.returns-else-since-count-clause-listed
+returns-else-since-count-clause-listed c =
+    let grows = c.notes_are_of_longer_histories.ensures in
+    let counted = c.refresh-count.new.self.sender.front in
+    let sees = c.stamp-since.new.self.sender.front in
+    let are = grows sees counted c.args.notes.now c.stamp-since.ensures.begins (grows counted c.args.self.now.sender.front c.args.notes.now c.refresh-count.ensures.begins c.requires.notes) in
+    (c.in-Some.ensures.found sees are c.stamp-since.ensures.accepted c.stamp-since.ensures.since).1
+
+pub returns-else-since-count-clause-notes : goal.returns-else-since-count-clause-notes
+returns-else-since-count-clause-notes c =
+    let grows = c.notes_are_of_longer_histories.ensures in
+    let saw = c.args.self.now.sender.front in
+    let counted = c.refresh-count.new.self.sender.front in
+    grows c.stamp-since.new.self.sender.front counted c.args.notes.now c.stamp-since.ensures.begins (grows counted saw c.args.notes.now c.refresh-count.ensures.begins c.requires.notes)
+
+pub returns-else-since-count-clause-noted : goal.returns-else-since-count-clause-noted
+returns-else-since-count-clause-noted c =
+    (c.stamp-since.result, has_loaded c.args.class c.stamp-since.result c.refresh-count.new.self.sender c.stamp-since.new.self.sender c.stamp-since.ensures.loaded, λ short. sym c.in-Some.ensures.noted)
+
+pub returns-else-since-count-clause-unprobed : goal.returns-else-since-count-clause-unprobed
+returns-else-since-count-clause-unprobed c =
+    found_unprobed c.args.notes.now c.args.class (selector_number c.args.sel) c.stamp-since.result (imp_number c.in-Some.imp) c.args.self.now.sender c.refresh-count.new.self.sender c.stamp-since.new.self.sender
+    c.refresh-count.ensures.stamps c.refresh-count.ensures.no_probe c.stamp-since.ensures.loaded c.in-Some.ensures.noted
+
+pub returns-in-None-clause-notes : goal.returns-in-None-clause-notes
+returns-in-None-clause-notes c =
+    let grows = c.notes_are_of_longer_histories.ensures in
+    let saw = c.args.self.now.sender.front in
+    let counted = c.refresh-count.new.self.sender.front in
+    grows c.stamp-since.new.self.sender.front counted c.args.notes.now c.stamp-since.ensures.begins (grows counted saw c.args.notes.now c.refresh-count.ensures.begins c.requires.notes)
+
+pub returns-in-None-clause-missed : goal.returns-in-None-clause-missed
+returns-in-None-clause-missed c =
+    inr (
+      c.stamp-since.result,
+      has_loaded c.args.class c.stamp-since.result c.refresh-count.new.self.sender c.stamp-since.new.self.sender c.stamp-since.ensures.loaded,
+      omega (arith, as_long c.refresh-count.new.self.sender.front c.args.self.now.sender.front c.refresh-count.ensures.begins, c.refresh-count.ensures.length, c.if-count-since.true),
+    )

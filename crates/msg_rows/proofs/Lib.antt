@@ -1,0 +1,11 @@
+pub mod CoveredLemmas
+pub mod CrossingLemmas
+pub mod IndexLemmas
+pub mod LinkLemmas
+pub mod ListLemmas
+pub mod OrElseLemmas
+pub mod PopLemmas
+pub mod RemoveLemmas
+pub mod ReservedLemmas
+pub mod RoomLemmas
+pub mod RowLemmas

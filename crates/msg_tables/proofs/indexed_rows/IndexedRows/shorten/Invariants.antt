@@ -1,9 +1,0 @@
-use Rattle.std.proofs.Common.{◌≡◌}
-use Rattle.msg_tables.specs.RowList.{KeepsRoom, without_last}
-use Rattle.msg_tables.proofs.indexed_rows.IndexedRows.shorten.Given as goal
-
-abbrev pub invariant-loop-step : goal.invariant-loop-step
-invariant-loop-step l = record {
-  rows : l.self.rows ≡ without_last l._step l.initial.self.rows;
-  keeps : KeepsRoom l.initial.self l.self;
-}
