@@ -43,7 +43,7 @@
  *     their rounds, too, and ends then what they began; but MOST_ENDS times, so that there is such
  *     a round also where a thread's first find is in one of the first round. Of a find after the
  *     last call nobody is told the end: then no old code is told as left by all. */
-#define _DEFAULT_SOURCE 1 /* for MAP_ANONYMOUS */
+#define _GNU_SOURCE 1 /* for the kind of lock, and for MAP_ANONYMOUS */
 #include "msg_process.h"
 #include <limits.h>
 #include <sched.h>
@@ -75,7 +75,12 @@ _Alignas(64) struct msg_process_words msg_process_words = {.at = &msg_process_wo
 static _Alignas(64) msg_sender nobody; /* closed, without notes */
 __thread struct msg_process_thread msg_process_own = {.sender = &nobody};
 
-static pthread_mutex_t lock = PTHREAD_MUTEX_INITIALIZER;
+/* Who has it needs it for less than a microsecond. So a thread tries it for a while before it
+ * sleeps, where the C library has such a lock. */
+#ifndef PTHREAD_ADAPTIVE_MUTEX_INITIALIZER_NP
+#define PTHREAD_ADAPTIVE_MUTEX_INITIALIZER_NP PTHREAD_MUTEX_INITIALIZER
+#endif
+static pthread_mutex_t lock = PTHREAD_ADAPTIVE_MUTEX_INITIALIZER_NP;
 /* Under the lock. */
 static msg_runtime runtime = MSG_RUNTIME_INIT;
 static struct seat *seats, *spares; /* threads', and nobody's, which are open */

@@ -37,7 +37,7 @@ are_refused words = not (are_known words) || is_beyond (config_of words)
 abbrev pub fault_in : ArenaView → ℕ → ℕ → ℕ
 fault_in a class sel = number_of_fault (ask_fault (classes a) class sel)
 
--- the question is asked: the class has one of this number of classes, and the selector has a number
+-- the question is asked: the class is one of the arena's classes, and the selector has a number
 abbrev pub IsAsked : ArenaView → ℕ → ℕ → Type 0
 IsAsked a class sel = ask_fault (classes a) class sel ≡ None
 

@@ -68,8 +68,8 @@ pub extern "C" fn msg_change_count(
 }
 
 /// The address of the first of the words that all threads share. Each note says how many bytes
-/// after it the stamp of its class reference lies. The words stay in place as long as the runtime
-/// or a sender of it is open.
+/// after this address the stamp of its class reference lies. The words stay in place as long as the
+/// runtime or a sender of it is open.
 #[unsafe(no_mangle)]
 pub extern "C" fn msg_words(
     alloc: Global,

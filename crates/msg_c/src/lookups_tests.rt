@@ -14,7 +14,7 @@ fn row(class: u32, meta: u32, sel: u32) -> LookupRow {
     LookupRow { class, meta, sel }
 }
 
-// The slot of a class, and that of a metaclass.
+// A lookup row of a class, and one of a metaclass.
 fn two() -> [LookupRow; 2] {
     [row(CHILD, 0, VALUE), row(CHILD, 1, NEW)]
 }

@@ -563,8 +563,8 @@ impl Keeper {
     }
 
     /// Adds changes to the history that are made as one, and returns how many times changes were
-    /// made. Each class reference that one of them affects is closed. The count is stored once, so
-    /// no sender sees only some of the changes.
+    /// made. Each class reference that one of them affects must be closed before. The count is
+    /// stored once, so no sender sees only some of the changes.
     pub fn commit_all<L: ChangeList>(&mut self, arena: &Arena, turn: &mut Turn, changes: &L) -> u64
         requires arena { IsOf arena.now self.old }
         requires turn { turn.old.table ≡ arena.now.table }

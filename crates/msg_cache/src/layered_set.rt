@@ -11,7 +11,7 @@ use std::marker::Model;
 
 /// A set of numbers below a limit. Finding its lowest number from one on takes at most five loads
 /// if the limit is at most 262,144, which no arena's number of arrays exceeds. Adding a number
-/// writes three words, and so does removing one.
+/// writes three words, and removing one at most three.
 #[derive(Drop)]
 pub(crate) struct LayeredSet {
     numbers: BitSet,

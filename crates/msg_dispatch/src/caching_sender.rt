@@ -44,7 +44,7 @@ impl<'d, N: ArenaName> Model for CachingSender<'d, N> {
 }
 
 impl<'d, N: ArenaName> CachingSender<'d, N> {
-    /// Makes a recalling sender with nothing noted yet. Notes take 64 KiB. If they can't be
+    /// Makes a caching sender with nothing noted yet. Notes take 128 KiB. If they can't be
     /// allocated, the sender is returned.
     pub fn new(alloc: Global, sender: Sender<'d, N>) -> Result<CachingSender<'d, N>, Sender<'d, N>>
         ensures ok { IfOk result (λ r. (r.sender ≡ sender.entry) × AreBlank r.notes) }
@@ -65,7 +65,7 @@ impl<'d, N: ArenaName> CachingSender<'d, N> {
 
     /// Returns the implementation that a lookup finds at what the sender has then seen. If it is
     /// noted since the stamp of the class reference, no lock is taken. The stamp is then the only
-    /// shared word that is loaded, and it is stored only when a change affects the class reference.
+    /// shared word that is loaded. It is stored when the class reference is closed or opened.
     #[inline(always)]
     pub fn find<R: Wait>(&mut self, rt: &R, class: ClassRef, sel: Selector) -> ImpRef
         requires class { class.class < class_total self.old.sender.seen.front.origin }

@@ -19,6 +19,6 @@ IsNoCut workers cut = (cut ≡ 0) × (0 < workers) × (workers ≤ MAX_WORKERS)
 abbrev pub IsDocumentOf : Option (List ℕ) → DocumentParts → Type 0
 IsDocumentOf known d = IfSome known (λ bytes. IsAnswer bytes (Ok d))
 
--- a fault that is reported of a document is one that those bytes have
+-- a fault that is reported of a document is the one that those bytes have
 abbrev pub TellsFaultOf : {A : Type 0} → Option (List ℕ) → Result A RunFault → Type 0
 TellsFaultOf known r = (f : DocumentFault) → r ≡ Err (Document f) → IfSome known (λ bytes. IsAnswer bytes (Err f))

@@ -116,8 +116,8 @@ Tell n since slot sel i = (h : History) → AreNotesOf h n → IsRecalledSince h
 abbrev pub TellFound : Notes → ℕ → ClassRef → Selector → ImpRef → Type 0
 TellFound n since c s i = (h : History) → AreNotesOf h n → IsAccepted h → last_affected h c ≤ since → IsFoundAt h c s i × IsListed h i
 
--- of each history where the lookup finds this implementation after the first changes, as many as
--- given, what were notes still are
+-- of each history where the lookup finds this implementation after the first `count` changes, what
+-- were notes still are
 abbrev pub StayNotes : Notes → Notes → ℕ → ClassRef → Selector → ImpRef → Type 0
 StayNotes old new count c s i = (h : History) → AreNotesOf h old → count ≤ length h.changes → IsFoundAt (first count h) c s i → IsListed h i → AreNotesOf h new
 

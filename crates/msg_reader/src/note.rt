@@ -6,8 +6,9 @@ ghost use Rattle.msg_reader.specs.Key.{IsSealed, key_of, mark_of, place_of};
 // The number of notes. It is a power of two, so the low bits of a key give the place of its note.
 pub(crate) const PLACES: usize = 4096;
 
-// The distance between the keys of two slots: more than the 2^36 keys of all selectors, and 1,449
-// notes on. So the notes of a class and of those with the next numbers lie far from each other.
+// The distance between the keys of two slots: more than the 2^36 that the keys of all selectors
+// span, and 1,449 notes on. So the notes of a class and of those with the next numbers lie far from
+// each other.
 // This is a multiplicative hash of the slot, like Knuth's (The Art of Computer Programming, 6.4).
 const APART: u64 = 68_719_499_920;
 

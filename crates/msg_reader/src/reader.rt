@@ -229,8 +229,8 @@ impl Reader {
         self.try_find_at(arena, notes, count, class, sel)
     }
 
-    /// Does the same as `try_find` for a caller that uses the notes by the number of changes. What the
-    /// notes have is noted again at that number, which is loaded first.
+    /// Does the same as `try_find` for a caller that uses the notes by the number of changes. What
+    /// the notes have is noted again at that number, which is loaded first.
     pub fn try_find_counted(
         &mut self,
         arena: &Arena,

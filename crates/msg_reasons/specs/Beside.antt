@@ -43,7 +43,7 @@ abbrev pub point_of : ℕ → History → List ItemParts → Point
 point_of version h [] = record { history = h; left = [] }
 point_of version h (item ∷ items) = if nat_le version (length h.changes) then record { history = h; left = item ∷ items } else point_of version (history_after h item) items
 
--- if the next lookup is answered: at its version, or where no version is left at the last one's
+-- where the next lookup is answered: at its version, or if no version is left at the last one's
 abbrev pub next_point : Course → Point
 next_point c = point_of (get_or c.versions 0 0) c.history c.left
 

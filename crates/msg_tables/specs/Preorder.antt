@@ -107,7 +107,7 @@ AreAllBelow p class found = (supers : List (Option Presence)) → HavePreorder s
 abbrev pub AreFirstAndOnce : ℕ → List ℕ → Type 0
 AreFirstAndOnce class found = AreOnce found × (rest : List ℕ) × (found ≡ class ∷ rest)
 
--- this is the order without a class that has no class below it, whose superclass is given
+-- this is the order from before a class left that has no class below it; its superclass is given
 pub record CanBeForgotten (p : Preorder) (k : ℕ) (superclass : Option ℕ) (supers : List (Option Presence)) : Type 0 where
   pub was : List (Option Presence)
   pub order : HavePreorder was p.depths.items p.nexts.items

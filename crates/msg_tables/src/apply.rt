@@ -114,8 +114,8 @@ impl Tables {
     }
 
     // Removes a class that has no class below it and no rows, and returns the entry that describes
-    // it. If the class comes right after its superclass, as the last class that was made does, this
-    // is all it costs; else all classes are visited.
+    // it. If the class comes right after its superclass, as the last class that was made does, no
+    // other is visited; otherwise all are.
     pub(crate) fn unmake(&mut self, class: u32) -> Entry
         requires { IsOfTables self.old (Edit.Dispose class) }
         ensures value { self.new ≡ record self.old

@@ -53,8 +53,8 @@ impl Preorder {
         }
     }
 
-    // Removes a class that has no class below it, and keeps the others in their order. If the class
-    // comes right after its superclass, this is all it costs; else all classes are visited.
+    // Removes a class that `supers` and `order` no longer have, and that has no class below it. If
+    // the class comes right after its superclass, no other is visited; otherwise all are.
     pub(crate) fn forget(
         &mut self,
         class: u32,

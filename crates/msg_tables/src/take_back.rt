@@ -137,8 +137,8 @@ impl Tables {
         }
     }
 
-    // Takes back all that a journal describes. No memory is taken. If a class was made, all classes
-    // are visited.
+    // Takes back all that a journal describes. No memory is taken. If a class was made or disposed
+    // of, all classes are visited.
     pub(crate) fn take_back(&mut self, start: Start, journal: &mut Vec<Entry>)
         requires { (old : TablesView) × GoesBack journal.old.items start.rows start.changes old self.old }
         ensures back { AreTakenBack journal.old.items start.rows start.changes self.old self.new }

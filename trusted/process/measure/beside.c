@@ -1,5 +1,6 @@
 /* Senders that find beside changes: millions of lookups a second, and how many changes were made.
  * Of tools/measure/process. */
+#define _GNU_SOURCE 1 /* for the kind of lock */
 #include "msg_runtime.h"
 #include <pthread.h>
 #include <stdatomic.h>
@@ -9,7 +10,7 @@
 #include <time.h>
 enum { CLASSES = 32, SELECTORS = 24, LOOKUPS = 127, MOST = 8 };
 static msg_runtime runtime = MSG_RUNTIME_INIT;
-static pthread_mutex_t lock = PTHREAD_MUTEX_INITIALIZER;
+static pthread_mutex_t lock = PTHREAD_ADAPTIVE_MUTEX_INITIALIZER_NP;
 static uint32_t selectors[SELECTORS];
 static atomic_bool ends;
 static void want(uint32_t answer)

@@ -128,8 +128,8 @@ impl Known<'_, '_> {
         walk.found(faults, &imp.body).faults
     }
 
-    /// Adds the faults of a body that names no class and no object. They are its worst faults, but
-    /// for a super send above a root class.
+    /// Adds the faults of a body that names no class and no object. They are its worst faults. A
+    /// super send counts only in a method of a root class.
     fn with_worst(&self, faults: BodyFaults, imp: &Imp) -> BodyFaults
         requires class { imp.now.worst.unknown_class ≡ false }
         requires object { imp.now.worst.unknown_object ≡ false }
