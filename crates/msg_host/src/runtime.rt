@@ -202,8 +202,8 @@ impl HostedRuntime {
         self.arena.words()
     }
 
-    /// Returns a sender, which has seen the whole history. If as many senders are out as the runtime
-    /// has room for, it returns none, and only then the error is `NoneFree`.
+    /// Returns a sender, which has seen the whole history. If as many senders are out as the
+    /// runtime has room for, it returns none, and only then the error is `NoneFree`.
     pub fn sender(&mut self) -> Result<HostedSender, SenderFault>
         ensures kept { self.new ≡ record self.old
             { keeper = self.new.keeper; rested = self.new.rested; report = self.new.report } }

@@ -32,8 +32,8 @@ pub fn a_history_no_longer_is_the_same()
     ensures { (p h : History) → BeginsWith p h → length p.changes ≡ length h.changes → p ≡ h }
 {}
 
-/// The slot of a class reference is below 2^26 if its class number is below 2^25. Then what is noted
-/// of it is recalled.
+/// The slot of a class reference is below 2^26 if its class number is below 2^25. Then what is
+/// noted of it is recalled.
 #[tactic(auto, using(crate::proofs::NoteLemmas::short_slot))]
 pub fn a_slot_of_few_classes_is_short()
     ensures { (c : ClassRef) → c.class < 2 ^ 25 → slot_of c < 2 ^ 26 }

@@ -83,8 +83,8 @@ impl Tables {
     /// `written`, in place of what was there. It gets an entry for each row that is added,
     /// rewritten or removed, and for each class, and it grows if it is too small. If a change is
     /// refused or memory is lacking, the changes before it are taken back, from the last to the
-    /// first. Taking them back needs no memory. For each row that a change had removed it visits the
-    /// rows of that list, and if a class was made or disposed of, all classes once.
+    /// first. Taking them back needs no memory. For each row that a change had removed it visits
+    /// the rows of that list, and if a class was made or disposed of, all classes once.
     ///
     /// [`Written::way_back`], made directly afterwards, takes the list back. It writes as many
     /// entries, so the room of a `Written` that held the list is enough, and it needs no memory.

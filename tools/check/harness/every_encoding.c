@@ -1,6 +1,6 @@
-/* trusted/objc/encoding.c over every text of up to so many letters of those that it tells apart, under the
- * sanitizers: each call, with the text at the end of a block of just its size, so that a read
- * beyond is seen. */
+/* Runs trusted/objc/encoding.c over every text of up to N of the letters that it tells apart, under
+ * the sanitizers. Each text lies at the end of a block of just its size, so a read beyond it is
+ * seen. */
 #include <stdio.h>
 #include <stdlib.h>
 #include <string.h>

@@ -1,6 +1,6 @@
-/* trusted/objc/names.c with small tables, in which all names meet (12 selectors, of which 10 are the shim's
- * own; 3 functions), run for every sequence of STEPS names, as programs and modules ask for them,
- * with memory refused at each place, under sanitizers. */
+/* Runs trusted/objc/names.c with small tables, in which all names collide: 12 selectors, of which
+ * 10 are the shim's own, and 3 functions. It runs every sequence of STEPS names, as programs and
+ * modules ask for them, with memory refused at each place, under sanitizers. */
 #include "blocks.h"
 #define abort() longjmp(search->out_of_run, 1)
 #define fprintf(...) ((void)0)
