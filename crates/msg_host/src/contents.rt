@@ -63,7 +63,7 @@ impl HostedRuntime {
     }
 
     /// Writes the classes below a class, if `room` has as many places, and returns their number. It
-    /// costs a walk over these classes.
+    /// costs two walks over these classes.
     pub fn below(&mut self, class: u32, room: &mut [u32]) -> Result<usize, AskFault>
         ensures same { self.new ≡ self.old }
         ensures shown { IfOk result (ShowsBelow self.old.keeper.history class room.old room.new) }

@@ -1,5 +1,5 @@
 -- The fields of a runtime.
-use Rattle.std.specs.Prelude.{◌≡◌, ◌≤◌}
+use Rattle.std.specs.Prelude.{◌≡◌}
 use Rattle.msg_tables.specs.Origin.{class_total}
 use Rattle.msg_tables.specs.History.{log}
 use Rattle.msg_tables.specs.Stands.{StandsAt}
@@ -19,6 +19,5 @@ pub record AreTogether (r : Inside) : Type 0 where
   pub tables : StandsAt r.tables (log (keeper_history r.keeper))
   pub origin : (keeper_history r.keeper).origin ≡ r.arena.value.key.origin
   pub classes : r.classes ≡ class_total (keeper_history r.keeper).origin
-  pub room : r.classes ≤ r.below.room
   pub rests : AreRested (keeper_view r.keeper) r.rested.items
   pub full : AreOut r.full (keeper_view r.keeper)

@@ -1,14 +1,17 @@
 //! What the tables hold: the methods of a class reference, and classes.
 
-ghost use Rattle.std.specs.Prelude.{◌≡◌, ◌<◌, drop};
-ghost use Rattle.msg_tables.specs.Contents.{HasMethods};
+ghost use Rattle.std.specs.Prelude.{◌≡◌, ◌<◌, ◌≤◌, ◌++◌, drop, length};
+ghost use Rattle.msg_tables.specs.Contents.{AreBelowClass, HasMethods};
 ghost use Rattle.msg_tables.specs.History.{log};
+ghost use Rattle.msg_tables.specs.Stands.{AtLog};
+ghost use Rattle.msg_tables.specs.declared.limits.TheConstants.{MAX_CLASSES};
 ghost use Rattle.msg_cache.specs.Views.{classes};
 ghost use Rattle.msg_runtime.specs.Contents.{AreShown, ShowsBelow, ShowsClasses};
 
 use crate::runtime::Runtime;
 use msg_names::{ClassRef, ImpRef, Selector};
 use msg_tables::laws::tables_are_of_their_origin;
+use msg_tables::{Tables, Walk};
 
 // Writes classes into `room` if it has as many places, and returns their number.
 fn show(found: &[u32], room: &mut [u32]) -> usize
@@ -20,13 +23,39 @@ fn show(found: &[u32], room: &mut [u32]) -> usize
     found.len()
 }
 
-// All classes but the first.
-fn without_first(found: &[u32]) -> &[u32]
-    ensures { result.now ≡ drop 1 found.now }
+// A walk over the classes below a class.
+fn walk_below(tables: &Tables, class: u32) -> Walk<'_>
+    requires { class < length tables.now.supers }
+    ensures below { AtLog tables.now (λ h. AreBelowClass h class result) }
+    ensures few { length result ≤ length tables.now.supers }
 {
-    match found.split_first() {
-        Some((_first, rest)) => rest,
-        None => &[],
+    let origin = ClassRef { class, meta: false };
+    let mut walk = tables.below(origin).classes();
+    let _ = walk.next();
+    walk
+}
+
+// How many classes a walk visits.
+fn count_of(walk: Walk<'_>) -> usize
+    requires few { length walk ≤ MAX_CLASSES }
+    ensures { result ≡ length walk.entry }
+{
+    let mut count = 0;
+    for _class in walk {
+        count += 1;
+    }
+    count
+}
+
+// Writes the classes of a walk into `room`, which has as many places.
+fn write_each(walk: Walk<'_>, room: &mut [u32])
+    requires room { length walk ≤ length room.old }
+    ensures { room.new ≡ walk.entry ++ drop (length walk.entry) room.old }
+{
+    let mut place = 0;
+    for class in walk {
+        room[place] = class;
+        place += 1;
     }
 }
 
@@ -51,15 +80,17 @@ impl Runtime {
     }
 
     /// Writes the classes below a class, if `room` has as many places. Returns their number. It
-    /// costs a walk over these classes.
-    pub fn show_below(&mut self, class: u32, room: &mut [u32]) -> usize
-        requires class { class < classes self.old.arena }
-        ensures same { self.new ≡ self.old }
-        ensures below { ShowsBelow self.old.keeper.history class room.old room.new result }
+    /// costs two walks over these classes.
+    pub fn show_below(&self, class: u32, room: &mut [u32]) -> usize
+        requires class { class < classes self.now.arena }
+        ensures { ShowsBelow self.now.keeper.history class room.old room.new result }
     {
         tables_are_of_their_origin();
-        let origin = ClassRef { class, meta: false };
-        self.tables.below(origin, &mut self.below);
-        show(without_first(self.below.classes()), room)
+        let walk = walk_below(&self.tables, class);
+        let count = count_of(walk.again());
+        if count <= room.len() {
+            write_each(walk, room);
+        }
+        count
     }
 }

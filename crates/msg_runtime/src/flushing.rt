@@ -1,6 +1,6 @@
 //! The caches that a change flushes.
 
-ghost use Rattle.std.specs.Prelude.{◌≡◌, ◌<◌, ◌≤◌, length, true};
+ghost use Rattle.std.specs.Prelude.{◌≡◌, ◌<◌, length, true};
 ghost use Rattle.msg_names.specs.declared.value.ClassRef.{ClassRef};
 ghost use Rattle.msg_tables.specs.Origin.{class_total};
 ghost use Rattle.msg_tables.specs.Below.{covers};
@@ -31,48 +31,36 @@ pub(crate) fn flush_class(keeper: &mut Keeper, arena: &Arena, class: u32, own: b
     }
 }
 
-// Flushes the caches of some class references. It looks at no other class.
-fn flush_each(keeper: &mut Keeper, arena: &Arena, below: &Below)
+// Flushes the caches of some class references.
+fn flush_each(keeper: &mut Keeper, arena: &Arena, below: Below<'_>)
     requires arena { IsKeeperOf arena.now keeper.old }
-    requires classes { AreClasses below.now.classes (keeper_history keeper.old).origin }
+    requires classes { AreClasses below.classes (keeper_history keeper.old).origin }
     ensures arena { IsKeeperOf arena.now keeper.new }
     ensures history { keeper_history keeper.new ≡ keeper_history keeper.old }
     ensures seats { keeper_seats keeper.new ≡ keeper_seats keeper.old }
-    ensures flushed { (c : ClassRef) → covers below.now c ≡ true → IsCold arena.now keeper.new c }
+    ensures flushed { (c : ClassRef) → covers below.entry c ≡ true → IsCold arena.now keeper.new c }
     ensures others { StayFlushed arena.now keeper.old keeper.new }
 {
+    let own = below.has_classes();
+    let meta = below.has_metaclasses();
     for class in below.classes() {
-        flush_class(
-            keeper,
-            arena,
-            *class,
-            below.has_classes(),
-            below.has_metaclasses(),
-        );
+        flush_class(keeper, arena, class, own, meta);
     }
 }
 
-// Flushes the caches of a class reference and of all below it.
-pub(crate) fn flush_below(
-    keeper: &mut Keeper,
-    arena: &Arena,
-    tables: &Tables,
-    class: ClassRef,
-    below: &mut Below,
-)
+// Flushes the caches of a class reference and of all below it. It looks at these and at one class
+// more.
+pub(crate) fn flush_below(keeper: &mut Keeper, arena: &Arena, tables: &Tables, class: ClassRef)
     requires arena { IsKeeperOf arena.now keeper.old }
     requires class { class.class < length tables.now.supers }
     requires classes { length tables.now.supers ≡ class_total (keeper_history keeper.old).origin }
-    requires room { length tables.now.supers ≤ below.old.room }
     ensures arena { IsKeeperOf arena.now keeper.new }
     ensures history { keeper_history keeper.new ≡ keeper_history keeper.old }
     ensures seats { keeper_seats keeper.new ≡ keeper_seats keeper.old }
     ensures flushed { IsFlushedBelow arena.now tables.now keeper.new class }
     ensures others { StayFlushed arena.now keeper.old keeper.new }
-    ensures room { length tables.now.supers ≤ below.new.room }
 {
-    tables.below(class, below);
-    flush_each(keeper, arena, below);
+    flush_each(keeper, arena, tables.below(class));
 }
 
 // Flushes all caches.

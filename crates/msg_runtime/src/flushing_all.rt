@@ -1,81 +1,83 @@
 //! The caches that a list of changes flushes.
 
-ghost use Rattle.std.specs.Prelude.{◌≡◌, ◌≤◌, [], ◌∷◌, All, IfSome, length};
+ghost use Rattle.std.specs.Prelude.{◌≡◌, [], ◌∷◌, All, length};
+ghost use Rattle.msg_names.specs.declared.value.ClassRef.{ClassRef};
 ghost use Rattle.msg_tables.specs.ChangeList.{change_of};
 ghost use Rattle.msg_tables.specs.Journal.{NamesListed};
 ghost use Rattle.msg_tables.specs.Making.{is_told};
 ghost use Rattle.msg_tables.specs.Origin.{class_total};
+ghost use Rattle.msg_tables.specs.Recent.{HasPlace};
 ghost use Rattle.msg_runtime.specs.Flushed.{AreFlushed, FirstAreFlushed, IsFlushedBelow, StayFlushed};
 ghost use Rattle.msg_runtime.specs.Parts.{IsKeeperOf, keeper_history, keeper_seats};
 ghost use Rattle.msg_runtime.specs.Reach.{flushes_all, is_flushed, is_set, is_set_alone};
 
 use crate::flushing::{flush_all, flush_below, flush_class};
 use msg_cache::{Arena, Keeper};
-use msg_names::ClassRef;
-use msg_tables::{Below, ChangeList, ChangeRef, Entry, Tables, Written};
+use msg_tables::{ChangeList, ChangeRef, Entry, Recent, Tables};
 
 // Flushes the caches that an entry affects: those of a class that was made or disposed of, or those
-// of the class reference where rows were written and of all below. It skips the latter if they were
-// flushed last. Returns what is then flushed last.
-fn flush_entry(
-    keeper: &mut Keeper,
-    arena: &Arena,
-    tables: &Tables,
-    entry: Entry,
-    last: Option<ClassRef>,
-    below: &mut Below,
-) -> Option<ClassRef>
-    requires last { IfSome last (IsFlushedBelow arena.now tables.now keeper.old) }
+// of the class reference where rows were written and of all below.
+fn flush_entry(keeper: &mut Keeper, arena: &Arena, tables: &Tables, entry: Entry)
     requires arena { IsKeeperOf arena.now keeper.old }
     requires listed { NamesListed (length tables.now.supers) entry }
     requires classes { length tables.now.supers ≡ class_total (keeper_history keeper.old).origin }
-    requires room { length tables.now.supers ≤ below.old.room }
     ensures arena { IsKeeperOf arena.now keeper.new }
     ensures history { keeper_history keeper.new ≡ keeper_history keeper.old }
     ensures seats { keeper_seats keeper.new ≡ keeper_seats keeper.old }
     ensures flushed { AreFlushed arena.now tables.now keeper.new (λ h. is_told h (entry ∷ [])) }
-    ensures last { IfSome result (IsFlushedBelow arena.now tables.now keeper.new) }
     ensures others { StayFlushed arena.now keeper.old keeper.new }
-    ensures room { length tables.now.supers ≤ below.new.room }
 {
     if let Entry::Made { class } | Entry::Disposed { class, .. } = entry {
         flush_class(keeper, arena, class, true, true);
-        return last;
+    } else if let Some(place) = entry.place() {
+        flush_below(keeper, arena, tables, place);
     }
-    let Some(place) = entry.place() else {
-        return last;
-    };
-    if last != Some(place) {
-        flush_below(keeper, arena, tables, place, below);
+}
+
+// Flushes the caches that an entry affects, unless what is below its place was flushed lately.
+fn flush_once(
+    keeper: &mut Keeper,
+    arena: &Arena,
+    tables: &Tables,
+    entry: Entry,
+    recent: &mut Recent,
+)
+    requires arena { IsKeeperOf arena.now keeper.old }
+    requires listed { NamesListed (length tables.now.supers) entry }
+    requires classes { length tables.now.supers ≡ class_total (keeper_history keeper.old).origin }
+    requires recent { (c : ClassRef) → HasPlace recent.old c → IsFlushedBelow arena.now tables.now keeper.old c }
+    ensures arena { IsKeeperOf arena.now keeper.new }
+    ensures history { keeper_history keeper.new ≡ keeper_history keeper.old }
+    ensures seats { keeper_seats keeper.new ≡ keeper_seats keeper.old }
+    ensures flushed { AreFlushed arena.now tables.now keeper.new (λ h. is_told h (entry ∷ [])) }
+    ensures recent { (c : ClassRef) → HasPlace recent.new c → IsFlushedBelow arena.now tables.now keeper.new c }
+    ensures others { StayFlushed arena.now keeper.old keeper.new }
+{
+    if !recent.had(entry) {
+        flush_entry(keeper, arena, tables, entry);
     }
-    Some(place)
 }
 
 // Flushes the caches that a list of changes affects, which were just made. These are the caches of
 // the classes that were made or disposed of, and of the places where rows were written and of all
 // below, by the present tables. What was below a place when a change wrote there still is, except
-// for classes that were disposed of. If several entries at one place follow one another, the
-// classes below it are visited only for the first.
-fn flush_written(
-    keeper: &mut Keeper,
-    arena: &Arena,
-    tables: &Tables,
-    written: &Written,
-    below: &mut Below,
-)
+// for classes that were disposed of.
+fn flush_written(keeper: &mut Keeper, arena: &Arena, tables: &Tables, entries: &[Entry])
     requires arena { IsKeeperOf arena.now keeper.old }
-    requires listed { All (NamesListed (length tables.now.supers)) written.now.entries }
+    requires listed { All (NamesListed (length tables.now.supers)) entries.now }
     requires classes { length tables.now.supers ≡ class_total (keeper_history keeper.old).origin }
-    requires room { length tables.now.supers ≤ below.old.room }
     ensures arena { IsKeeperOf arena.now keeper.new }
     ensures history { keeper_history keeper.new ≡ keeper_history keeper.old }
     ensures seats { keeper_seats keeper.new ≡ keeper_seats keeper.old }
-    ensures flushed { AreFlushed arena.now tables.now keeper.new (λ h. is_told h written.now.entries) }
-    ensures room { length tables.now.supers ≤ below.new.room }
+    ensures flushed { AreFlushed arena.now tables.now keeper.new (λ h. is_told h entries.now) }
 {
-    let mut last = None;
-    for entry in written.as_slice() {
-        last = flush_entry(keeper, arena, tables, *entry, last, below);
+    if entries.len() == 1 {
+        flush_entry(keeper, arena, tables, entries[0]);
+        return;
+    }
+    let mut recent = Recent::none();
+    for entry in entries {
+        flush_once(keeper, arena, tables, *entry, &mut recent);
     }
 }
 
@@ -123,24 +125,21 @@ pub(crate) fn flush_changed<L: ChangeList>(
     tables: &Tables,
     classes: u32,
     changes: &L,
-    written: &Written,
-    below: &mut Below,
+    entries: &[Entry],
 )
     requires arena { IsKeeperOf arena.now keeper.old }
-    requires listed { All (NamesListed (length tables.now.supers)) written.now.entries }
+    requires listed { All (NamesListed (length tables.now.supers)) entries.now }
     requires classes { classes ≡ class_total (keeper_history keeper.old).origin }
     requires tables { length tables.now.supers ≡ classes }
-    requires room { classes ≤ below.old.room }
     ensures arena { IsKeeperOf arena.now keeper.new }
     ensures history { keeper_history keeper.new ≡ keeper_history keeper.old }
     ensures seats { keeper_seats keeper.new ≡ keeper_seats keeper.old }
     ensures flushed { FirstAreFlushed classes arena.now tables.now keeper.new
-        (λ h. is_flushed tables.now.counts (L.changes changes.now) h written.now.entries) }
-    ensures room { classes ≤ below.new.room }
+        (λ h. is_flushed tables.now.counts (L.changes changes.now) h entries.now) }
 {
     if flushes_all(tables, changes) {
         flush_all(keeper, arena, classes);
     } else {
-        flush_written(keeper, arena, tables, written, below);
+        flush_written(keeper, arena, tables, entries);
     }
 }

@@ -28,9 +28,7 @@ use msg_names::{ClassRef, ImpRef, Selector};
 use msg_reader::laws::notes_are_of_longer_histories;
 use msg_reader::{Notes, Reader};
 use msg_tables::laws::tables_are_of_their_origin;
-use msg_tables::{
-    Below, Change, ChangeFault, ChangeList, HasOrigin, Origin, Refused, Tables, Written,
-};
+use msg_tables::{Change, ChangeFault, ChangeList, HasOrigin, Origin, Refused, Tables, Written};
 use std::alloc::{AllocError, Global};
 use std::marker::Model;
 use std::mem::swap;
@@ -47,7 +45,6 @@ use std::snapshot::Snapshot;
 pub struct Runtime {
     pub(crate) keeper: Keeper,
     pub(crate) tables: Tables,
-    pub(crate) below: Below,
     written: Written,
     classes: u32,
     // for each sender number the number of changes when its sender last rested or was given out
@@ -112,12 +109,10 @@ impl Runtime {
         ensures rested { IfOk result (λ r. r.rested ≡ replicate arena.now.key.senders 0) }
     {
         let tables = Tables::open(alloc, origin)?;
-        let below = tables.room_below(alloc)?;
         let rested = vec![in alloc; 0; arena.senders() as usize]?;
         Ok(Runtime {
             keeper,
             tables,
-            below,
             written: Written::with_room(alloc, OPENING_ENTRIES)?,
             classes: origin.class_count(),
             rested,
@@ -263,9 +258,7 @@ impl Runtime {
     {
         tables_are_of_their_origin();
         self.keeper.face(arena, turn);
-        let below = &mut self.below;
-        self.tables
-            .reach_all(changes, &mut self.written, marked, below)
+        self.tables.reach_all(changes, &mut self.written, marked)
     }
 
     /// Makes a change, closes the class references that it affects and flushes their caches.
@@ -407,8 +400,7 @@ impl Runtime {
             &self.tables,
             self.classes,
             changes,
-            &self.written,
-            &mut self.below,
+            self.written.as_slice(),
         );
         Ok(self.keeper.commit_all(arena, turn, changes))
     }

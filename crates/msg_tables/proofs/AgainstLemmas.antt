@@ -1,9 +1,8 @@
 -- Why a change is refused, by the tables.
-use Rattle.std.proofs.Common.{◌≡◌, ◌<◌, ◌≤◌, ◌+◌, ℕ, List, [], ◌∷◌, ◌++◌, length, length-append, Option, Some, None, Bool, true, false, refl, sym, ap, ◌∙◌, subst, arith}
+use Rattle.std.proofs.Common.{◌≡◌, ◌<◌, ◌≤◌, ◌+◌, ℕ, List, [], ◌∷◌, ◌++◌, length, length-append, Option, Some, None, Bool, false, refl, sym, ap, ◌∙◌, subst, arith}
 use Rattle.std.specs.Prelude.{◌||◌, not, nat_lt, nat_le, is_some, is_none, if◌then◌else◌}
 use Rattle.std.specs.List.{list_any}
 use Rattle.std.proofs.lemmas.Bool.Decides.{nat_tests}
-use Rattle.msg_names.specs.declared.value.ClassRef.{ClassRef}
 use Rattle.msg_names.specs.Number.{selector_number, imp_number}
 use Rattle.msg_tables.specs.declared.change.Change.{Change}
 use Rattle.msg_tables.specs.declared.change.Change.TheVariants.{Add, Replace, SetImp, Exchange, Attach, AddClass, Remove, DisposeClass}
@@ -14,8 +13,8 @@ use Rattle.msg_tables.specs.After.{table_after}
 use Rattle.msg_tables.specs.Chain.{is_present, has_subclass}
 use Rattle.msg_tables.specs.Log.{Log, and_then, table, table_after_all}
 use Rattle.msg_tables.specs.Origin.{OriginView, class_total, lacks_imp, misfits_in, unlike_in}
-use Rattle.msg_tables.specs.Refusal.{refusal, AreAccepted, conditions, least_change_fault, no_class, no_number, no_superclass, no_imp, misfits, unlike, has_own, no_method, is_full, is_in_use}
-use Rattle.msg_tables.specs.Rows.{Row, ClassTable, own, holder_at}
+use Rattle.msg_tables.specs.Refusal.{refusal, AreAccepted, conditions, least_change_fault, no_class, no_number, no_imp, misfits, unlike, has_own, no_method, is_full, is_in_use}
+use Rattle.msg_tables.specs.Rows.{ClassTable, own, holder_at}
 use Rattle.msg_tables.specs.Undo.{AreAlike}
 use Rattle.msg_tables.proofs.AlikeLemmas.{alike-rows, own-alike, length-alike, holder-alike, alike-after}
 use Rattle.msg_tables.proofs.LimitLemmas.{accepted_few}

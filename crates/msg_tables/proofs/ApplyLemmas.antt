@@ -1,5 +1,5 @@
 -- Tables that are at a longer log after a change was written.
-use Rattle.std.proofs.Common.{◌≡◌, ◌+◌, List, [], ◌∷◌, ◌++◌, length, length-append, Some, None, Bool, true, false, cond, refl, sym, ap, ◌∙◌, subst, arith}
+use Rattle.std.proofs.Common.{◌≡◌, ◌+◌, List, [], ◌∷◌, length, length-append, Some, None, Bool, true, false, cond, refl, sym, ap, ◌∙◌, subst, arith}
 use Rattle.std.specs.Prelude.{◌||◌}
 use Rattle.std.specs.List.{list_any}
 use Rattle.msg_tables.specs.declared.change.Change.{Change}
@@ -8,7 +8,7 @@ use Rattle.msg_tables.specs.declared.edit.Edit.{Edit}
 use Rattle.msg_tables.specs.declared.fault.ChangeFault.{ChangeFault}
 use Rattle.msg_tables.specs.declared.fault.ChangeFault.TheVariants.{NoClass, NoImp, ArgumentCount, MethodPresent, NoMethod, Limit, Memory, DuplicateClass, ClassInUse}
 use Rattle.msg_tables.specs.After.{rows_after, supers_after, table_after}
-use Rattle.msg_tables.specs.Edits.{IsOfTables, edited, supers_edited, added, removed, Writes}
+use Rattle.msg_tables.specs.Edits.{IsOfTables, edited, supers_edited, Writes}
 use Rattle.msg_tables.specs.Log.{Log, and_then, table}
 use Rattle.msg_tables.specs.Refusal.{refusal, least_change_fault, conditions}
 use Rattle.msg_tables.specs.Stands.{Holds, StandsAt}

@@ -1,16 +1,15 @@
 -- A class reference keeps its chain while changes are made, unless its class is one that they make
 -- or dispose of.
-use Rattle.std.proofs.Common.{◌≡◌, ◌≢◌, ℕ, List, [], ◌∷◌, ◌++◌, None, Bool, true, false, refl, sym, ap, ◌∙◌, subst, arith}
+use Rattle.std.proofs.Common.{◌≡◌, ℕ, List, [], ◌∷◌, ◌++◌, None, true, false, refl, sym, ap, ◌∙◌}
 use Rattle.std.specs.Prelude.{◌==◌}
-use Rattle.std.proofs.lemmas.Bool.Decides.{nat_tests}
 use Rattle.std.proofs.lemmas.List.Folds.{list_any-append}
 use Rattle.msg_names.proofs.TestLemmas.{neither, other_number}
 use Rattle.msg_names.specs.declared.value.ClassRef.{ClassRef}
 use Rattle.msg_tables.specs.Origin.{IsSound}
 use Rattle.msg_tables.specs.declared.change.Change.{Change}
 use Rattle.msg_tables.specs.declared.change.Change.TheVariants.{Add, Replace, SetImp, Exchange, Attach, AddClass, Remove, DisposeClass}
-use Rattle.msg_tables.specs.After.{supers_after, table_after}
-use Rattle.msg_tables.specs.Chain.{is_member, is_present, chain_of}
+use Rattle.msg_tables.specs.After.{table_after}
+use Rattle.msg_tables.specs.Chain.{is_member, chain_of}
 use Rattle.msg_tables.specs.Log.{Log, and_then, table, chain_at}
 use Rattle.msg_tables.specs.Refusal.{refusal, AreAccepted, IsLog}
 use Rattle.msg_tables.proofs.LogLemmas.{table-and_then}

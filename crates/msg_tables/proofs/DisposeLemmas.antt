@@ -1,8 +1,8 @@
 -- Rows that are removed from a class reference one after another, and a class that is disposed of.
-use Rattle.std.proofs.Common.{◌≡◌, ◌<◌, ◌+◌, ◌-◌, ℕ, zero, suc, List, [], ◌∷◌, ◌++◌, append-nil, append_assoc, length, length-append, map, slice_get, Option, Some, None, option_map, Bool, true, false, cond, refl, sym, ap, ap₂, ◌∙◌, subst, arith}
-use Rattle.std.specs.Prelude.{◌==◌, ◌&&◌, ◌||◌, is_none, slice_index_or, slice_set}
+use Rattle.std.proofs.Common.{◌≡◌, ◌<◌, ◌+◌, ◌-◌, ℕ, suc, List, [], ◌∷◌, ◌++◌, append-nil, append_assoc, length, length-append, slice_get, Option, Some, None, option_map, Bool, true, false, cond, refl, sym, ap, ap₂, ◌∙◌, subst, arith}
+use Rattle.std.specs.Prelude.{◌==◌, ◌&&◌, ◌||◌, slice_set}
 use Rattle.std.specs.Option.{option_map_or}
-use Rattle.std.proofs.lemmas.List.{get_or-set_same, length-set, map-append}
+use Rattle.std.proofs.lemmas.List.{get_or-set_same, map-append}
 use Rattle.std.proofs.lemmas.Option.{same_Some}
 use Rattle.msg_names.specs.ClassRef.{same_class, slot_of}
 use Rattle.msg_names.specs.Number.{selector_number, imp_number}
@@ -12,9 +12,8 @@ use Rattle.msg_names.proofs.ClassRefLemmas.{same_class-is}
 use Rattle.msg_names.proofs.TestLemmas.{equal}
 use Rattle.msg_tables.specs.After.{of_class, of_meta, without_class}
 use Rattle.msg_tables.specs.Chain.{is_member, presence_of}
-use Rattle.msg_tables.specs.Edits.{Writes}
-use Rattle.msg_tables.specs.Journal.{AllNameListed, IsJournalOf, IsRemoved, Journals, TakesRows, TellsDisposed, TellsRemoved, classes_of, cover_all, edit_undo, places_of, undo_entry, undo_journal}
-use Rattle.msg_rows.specs.RowList.{or_else, last_row, own_in, without_row}
+use Rattle.msg_tables.specs.Journal.{AllNameListed, IsJournalOf, IsRemoved, Journals, TakesRows, TellsDisposed, TellsRemoved, classes_of, cover_all, places_of, undo_entry, undo_journal}
+use Rattle.msg_rows.specs.RowList.{last_row, own_in, without_row}
 use Rattle.msg_tables.specs.Several.{is_of_one}
 use Rattle.msg_tables.specs.Stands.{Holds}
 use Rattle.msg_tables.specs.Undo.{covering}
@@ -23,7 +22,6 @@ use Rattle.msg_tables.specs.declared.change.Change.{Change}
 use Rattle.msg_tables.specs.declared.change.Change.TheVariants.{AddClass}
 use Rattle.msg_tables.specs.declared.edit.Edit.TheVariants as edit
 use Rattle.msg_tables.specs.declared.entry.Entry.{Entry}
-use Rattle.msg_tables.specs.declared.entry.Entry.TheVariants.{Removed, Disposed}
 use Rattle.msg_tables.specs.declared.presence.Presence.{Presence}
 use Rattle.msg_tables.proofs.EditLemmas.{holds-dispose}
 use Rattle.msg_tables.proofs.HoldsLemmas.{kept-other, meta-apart}

@@ -1,10 +1,10 @@
 -- A class that is disposed of leaves the order of classes.
-use Rattle.std.proofs.Common.{◌≡◌, ◌≢◌, ◌<◌, ◌≤◌, ◌+◌, ◌⊎◌, inl, inr, ℕ, zero, suc, List, [], ◌∷◌, length, take, drop, ◌++◌, Option, Some, None, Bool, true, false, slice_get, refl, sym, ap, ◌∙◌, subst, arith}
+use Rattle.std.proofs.Common.{◌≡◌, ◌≢◌, ◌<◌, ◌+◌, ◌⊎◌, inl, inr, ℕ, zero, suc, List, [], ◌∷◌, length, take, drop, ◌++◌, Option, Some, None, Bool, true, false, slice_get, refl, sym, ap, ◌∙◌, subst, arith}
 use Rattle.std.specs.Prelude.{◌==◌, ◌||◌, IfSome, is_some, slice_set}
 use Rattle.std.proofs.lemmas.Option.{same_Some}
 use Rattle.msg_names.proofs.TestLemmas.{equal, same_number, other_number}
 use Rattle.msg_tables.specs.declared.presence.Presence.{Presence}
-use Rattle.msg_tables.specs.Chain.{presence_of, index_in, is_present, has_subclass}
+use Rattle.msg_tables.specs.Chain.{presence_of, is_present, has_subclass}
 use Rattle.msg_tables.specs.Order.{StandsBefore, IsOrder, present_count}
 use Rattle.msg_tables.specs.Preorder.{is_in}
 use Rattle.msg_tables.proofs.ClassLemmas.{gone-other, gone-same, no_subclass}

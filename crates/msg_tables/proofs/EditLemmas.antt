@@ -1,5 +1,5 @@
 -- Rows that are removed, and the number of rows.
-use Rattle.std.proofs.Common.{◌≡◌, ◌≢◌, ◌<◌, ◌+◌, ℕ, zero, suc, List, [], ◌∷◌, ◌++◌, length, length-append, Option, Some, None, Bool, true, false, cond, refl, sym, ap, ap₂, ◌∙◌, subst, arith}
+use Rattle.std.proofs.Common.{◌≡◌, ◌≢◌, ◌<◌, ◌+◌, ℕ, zero, suc, List, [], ◌∷◌, ◌++◌, length, length-append, Option, Some, None, Bool, true, false, cond, refl, sym, ap, ◌∙◌, subst, arith}
 use Rattle.msg_tables.specs.Origin.{are_listed}
 use Rattle.msg_tables.proofs.ListedLemmas.{and_both}
 use Rattle.std.specs.Prelude.{◌==◌, ◌&&◌, nat_le, is_none, is_some, IsSome, reverse, slice_index_or, slice_set, sum_by}
@@ -8,7 +8,7 @@ use Rattle.std.proofs.lemmas.List.{get_or-set_other, get_or-set_same, length-rev
 use Rattle.msg_names.specs.ClassRef.{same_class, same_truth, slot_of}
 use Rattle.msg_names.specs.Number.{selector_number, imp_number}
 use Rattle.msg_names.specs.declared.value.ClassRef.{ClassRef}
-use Rattle.msg_names.proofs.ClassRefLemmas.{same_class-is, same_class-refl}
+use Rattle.msg_names.proofs.ClassRefLemmas.{same_class-is}
 use Rattle.msg_names.proofs.TestLemmas.{both, equal, same_number}
 use Rattle.msg_tables.specs.After.{of_class, of_meta, rows_at, without_class, without_own}
 use Rattle.msg_tables.specs.Edits.{IsOfTables, added, edited, removed, rewritten}
@@ -18,7 +18,7 @@ use Rattle.msg_tables.specs.Stands.{Holds, pairs_at}
 use Rattle.msg_tables.specs.View.{TablesView, kept}
 use Rattle.msg_tables.specs.declared.edit.Edit.{Edit}
 use Rattle.msg_tables.specs.declared.edit.Edit.TheVariants as edit
-use Rattle.msg_tables.proofs.HoldsLemmas.{class-apart, holds-put, kept-other, length-rows_at, length-set_own, meta-apart}
+use Rattle.msg_tables.proofs.HoldsLemmas.{class-apart, holds-put, kept-other, length-rows_at, length-set_own}
 use Rattle.msg_tables.proofs.LookupLemmas.{own-pairs_at}
 
 -- ---- the own row is removed

@@ -1,6 +1,6 @@
 -- The implementations of a selector in a class reference, and the number of rows, while rows are
 -- added, rewritten and removed.
-use Rattle.std.proofs.Common.{◌≡◌, ◌+◌, ℕ, suc, List, [], ◌∷◌, ◌++◌, length, Option, Some, None, Bool, true, false, cond, refl, sym, ap, ap₂, ◌∙◌, subst, arith}
+use Rattle.std.proofs.Common.{◌≡◌, ◌+◌, ℕ, List, [], ◌∷◌, ◌++◌, length, Option, Some, None, Bool, true, false, cond, refl, sym, ap, ap₂, ◌∙◌, subst, arith}
 use Rattle.std.specs.Prelude.{◌==◌, ◌&&◌, not, is_some, is_none}
 use Rattle.msg_names.proofs.TestLemmas.{equal, same_number}
 use Rattle.msg_names.proofs.ClassRefLemmas.{same_class-is, same_class-refl}
@@ -8,7 +8,7 @@ use Rattle.msg_names.specs.declared.value.ClassRef.{ClassRef}
 use Rattle.msg_names.specs.ClassRef.{same_class}
 use Rattle.msg_rows.specs.RowList.{or_else}
 use Rattle.msg_tables.specs.Rows.{Row, is_at, own}
-use Rattle.msg_tables.specs.After.{set_own, set_method, without_own, without_class}
+use Rattle.msg_tables.specs.After.{set_own, without_own, without_class}
 use Rattle.msg_tables.specs.Undo.{imps_of, count_at}
 use Rattle.msg_rows.proofs.OrElseLemmas.{or_else_none}
 

@@ -1,11 +1,10 @@
 -- What accepted changes keep of tables: the listed classes, superclasses, and rows that could be
 -- added again.
-use Rattle.std.proofs.Common.{◌≡◌, ◌≢◌, ◌<◌, ◌≤◌, ◌+◌, ◌-◌, ℕ, zero, suc, List, [], ◌∷◌, ◌++◌, length, length-append, Option, Some, None, Bool, true, false, cond, map, reverse, refl, sym, ap, ap₂, ◌∙◌, subst, arith}
-use Rattle.std.specs.Prelude.{◌==◌, ◌&&◌, ◌||◌, not, nat_lt, nat_le, is_some, is_none, slice_set, slice_get}
+use Rattle.std.proofs.Common.{◌≡◌, ◌≢◌, ◌<◌, ◌≤◌, ◌+◌, ◌-◌, ℕ, List, [], ◌∷◌, ◌++◌, length, length-append, Option, Some, None, Bool, true, false, cond, reverse, refl, sym, ap₂, ◌∙◌, subst, arith}
+use Rattle.std.specs.Prelude.{◌==◌, ◌&&◌, not, nat_lt, nat_le, is_some, is_none, slice_set, slice_get}
 use Rattle.std.specs.List.{list_all, list_any}
-use Rattle.std.specs.Option.{option_map_or}
 use Rattle.std.proofs.lemmas.Bool.Decides.{nat_tests}
-use Rattle.std.proofs.lemmas.List.{length-set, length-reverse, reverse-append, get_or-set_same, get_or-set_other}
+use Rattle.std.proofs.lemmas.List.{length-set, length-reverse, reverse-append}
 use Rattle.std.proofs.lemmas.Option.{same_Some}
 use Rattle.msg_names.proofs.TestLemmas.{both, neither, not_false, equal, same_number, other_number}
 use Rattle.msg_names.specs.declared.value.ClassRef.{ClassRef}
@@ -15,20 +14,18 @@ use Rattle.msg_names.specs.ClassRef.{same_class}
 use Rattle.msg_names.specs.Number.{selector_number, imp_number}
 use Rattle.msg_tables.specs.declared.change.Change.{Change}
 use Rattle.msg_tables.specs.declared.change.Change.TheVariants.{Add, Replace, SetImp, Exchange, Attach, AddClass, Remove, DisposeClass}
-use Rattle.msg_tables.specs.declared.fault.ChangeFault.{ChangeFault}
 use Rattle.msg_tables.specs.declared.presence.Presence.{Presence}
 use Rattle.msg_tables.specs.After.{of_class, of_meta, row, rows_at, set_own, set_method, without_own, without_class, rows_after, supers_after, table_after}
-use Rattle.msg_tables.specs.Chain.{presence_of, is_present, is_directly_below, has_subclass, chain_of}
+use Rattle.msg_tables.specs.Chain.{is_present, has_subclass, chain_of}
 use Rattle.msg_tables.specs.Origin.{CountsView, OriginView, class_total, lacks_imp, misfits_in, unlike_in, differ}
 use Rattle.msg_rows.specs.RowList.{or_else}
-use Rattle.msg_tables.specs.Rows.{Row, ClassTable, is_at, own, holder_in, holder_at, lookup_at}
+use Rattle.msg_tables.specs.Rows.{Row, ClassTable, is_at, own, holder_at, lookup_at}
 use Rattle.msg_tables.specs.Undo.{fits_in}
-use Rattle.msg_tables.proofs.AgainstLemmas.{May, absent, absent_superclass, against}
+use Rattle.msg_tables.proofs.AgainstLemmas.{May, absent_superclass, against}
 use Rattle.msg_tables.proofs.ClassLemmas.{Grounded, made-stays, made-grounded, gone-stays, gone-grounded}
 use Rattle.msg_tables.proofs.HoldsLemmas.{length-set_own, length-rows_at}
 use Rattle.msg_tables.proofs.ImpsLemmas.{class-at}
 use Rattle.msg_tables.proofs.LimitLemmas.{none_holds}
-use Rattle.msg_tables.proofs.LogLemmas.{length-supers_after}
 use Rattle.msg_tables.proofs.OrderLemmas.{present-inside}
 use Rattle.msg_tables.proofs.OwnLemmas.{lookup-holder}
 

@@ -1,7 +1,6 @@
 -- A class with no class below it leaves the preorder, in which it comes right after its superclass.
-use Rattle.std.proofs.Common.{◌≡◌, ◌≢◌, ◌<◌, ◌≤◌, ◌+◌, ◌++◌, ℕ, zero, suc, List, [], ◌∷◌, length, length-append, Option, Some, None, Bool, true, false, refl, sym, ap, ◌∙◌, subst, append_assoc, arith}
+use Rattle.std.proofs.Common.{◌≡◌, ◌≢◌, ◌<◌, ◌≤◌, ◌+◌, ◌++◌, ℕ, suc, List, [], ◌∷◌, length, length-append, Option, Some, None, Bool, true, false, refl, sym, ap, ◌∙◌, subst, append_assoc, arith}
 use Rattle.std.specs.Prelude.{◌==◌, ◌||◌, if◌then◌else◌, is_some, nat_lt, slice_set}
-use Rattle.std.specs.List.{list_any}
 use Rattle.std.proofs.lemmas.Bool.Decides.{nat_tests}
 use Rattle.std.proofs.lemmas.List.{length-set, get_or-set_same, get_or-set_other}
 use Rattle.std.proofs.lemmas.List.Folds.{list_any-append}
@@ -11,7 +10,7 @@ use Rattle.msg_tables.specs.declared.presence.Presence.{Presence}
 use Rattle.msg_tables.specs.After.{of_class}
 use Rattle.msg_tables.specs.Chain.{chain_of, descends, has_subclass, is_member, is_present}
 use Rattle.msg_tables.specs.Order.{present_count}
-use Rattle.msg_tables.specs.Preorder.{AreFollowed, AreLinked, HavePreorder, IsFollowed, IsPreorder, deeper, depth_at, first_depth, is_in, next_at, next_in}
+use Rattle.msg_tables.specs.Preorder.{AreFollowed, AreLinked, HavePreorder, IsFollowed, deeper, depth_at, first_depth, is_in, next_at, next_in}
 use Rattle.msg_tables.proofs.ClassLemmas.{gone-other, gone-same}
 use Rattle.msg_tables.proofs.DisposedLemmas.{present_count-gone}
 use Rattle.msg_tables.proofs.OrderLemmas.{present-inside}

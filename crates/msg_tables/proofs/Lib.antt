@@ -11,6 +11,7 @@ pub mod ImpLemmas
 pub mod JudgeLemmas
 pub mod LawLemmas
 pub mod LimitLemmas
+pub mod LinkLemmas
 pub mod LeaveLemmas
 pub mod ListedLemmas
 pub mod ListedOrderLemmas

@@ -1,5 +1,5 @@
 -- Changes of a list that are made one after another.
-use Rattle.std.proofs.Common.{◌≡◌, ◌<◌, ◌≤◌, ◌+◌, ℕ, zero, suc, List, [], ◌∷◌, ◌++◌, take, length, length-append, append_assoc, append-nil, Some, None, refl, sym, ap, ap₂, ◌∙◌, subst, slice_index_or, arith}
+use Rattle.std.proofs.Common.{◌≡◌, ◌<◌, ◌+◌, ℕ, zero, suc, List, [], ◌∷◌, ◌++◌, take, length, append_assoc, append-nil, Some, None, refl, sym, ap, ap₂, ◌∙◌, subst, slice_index_or, arith}
 use Rattle.std.specs.Prelude.{slice_get}
 use Rattle.std.proofs.lemmas.List.{take_more}
 use Rattle.std.proofs.lemmas.Option.{get_or_from_slice_get}

@@ -1,20 +1,20 @@
 -- One more class in an order in which those below a class come right after it.
-use Rattle.std.proofs.Common.{◌≡◌, ◌≢◌, ◌<◌, ◌≤◌, ◌+◌, ◌++◌, ◌⊎◌, inl, inr, ℕ, zero, suc, List, [], ◌∷◌, length, Option, Some, None, Bool, true, false, cond, replicate, take, drop, slice_get, length-append, refl, sym, ap, ◌∙◌, subst, arith}
+use Rattle.std.proofs.Common.{◌≡◌, ◌≢◌, ◌<◌, ◌+◌, ◌++◌, ◌⊎◌, inl, inr, ℕ, zero, suc, List, [], ◌∷◌, length, Option, Some, None, Bool, true, false, cond, replicate, take, slice_get, refl, sym, ap, ◌∙◌, subst, arith}
 use Rattle.std.specs.Prelude.{◌==◌, ◌||◌, is_some, slice_set, IfSome}
 use Rattle.std.specs.Option.{option_map_or}
-use Rattle.std.proofs.lemmas.Bool.{true≢false, or_cases, false_from_ne_true, cases_eq, cases_lt, cases_Bool}
+use Rattle.std.proofs.lemmas.Bool.{true≢false, or_cases, false_from_ne_true, cases_Bool}
 use Rattle.std.proofs.lemmas.List.{length-set, length-replicate, get_or-set_same, get_or-set_other}
 use Rattle.std.proofs.lemmas.List.Folds.{list_any-append}
-use Rattle.std.proofs.lemmas.Option.{same_Some, slice_get_within, get_or_from_slice_get}
-use Rattle.std.proofs.Math.Seq.{split_at, take-length}
-use Rattle.msg_names.proofs.TestLemmas.{same_number, other_number, equal}
+use Rattle.std.proofs.lemmas.Option.{slice_get_within}
+use Rattle.std.proofs.Math.Seq.{take-length}
+use Rattle.msg_names.proofs.TestLemmas.{same_number, other_number}
 use Rattle.msg_names.proofs.ClassRefLemmas.{same_class-is}
 use Rattle.msg_names.specs.declared.value.ClassRef.{ClassRef}
 use Rattle.msg_names.specs.ClassRef.{above, same_class}
 use Rattle.msg_tables.specs.declared.presence.Presence.{Presence}
 use Rattle.msg_tables.specs.After.{of_class}
 use Rattle.msg_tables.specs.Chain.{presence_of, is_present, super_of, steps_of, is_member, descends}
-use Rattle.msg_tables.specs.Order.{StandsBefore, IsOrder, present_count}
+use Rattle.msg_tables.specs.Order.{IsOrder, present_count}
 use Rattle.msg_tables.specs.Preorder.{is_in, first_depth, AreFollowed, next_in, depth_at, next_at, IsPreorder, HavePreorder, depths_with, nexts_with}
 use Rattle.msg_tables.proofs.DescentLemmas.{descends-step, up, itself}
 use Rattle.msg_tables.proofs.OrderLemmas.{count-le, present-inside, super-is, super-fewer}

@@ -1,23 +1,22 @@
 -- What is marked for a list of changes that was made.
-use Rattle.std.proofs.Common.{◌≡◌, ℕ, ◌<◌, ◌+◌, List, [], ◌∷◌, ◌++◌, Bool, true, false, length, refl, slice_index_or, sym, ap, ap₂, subst, take, ◌∙◌}
+use Rattle.std.proofs.Common.{◌≡◌, ℕ, ◌<◌, ◌+◌, List, [], ◌∷◌, ◌++◌, Some, Bool, true, false, length, refl, slice_index_or, sym, ap, ap₂, subst, take, ◌∙◌}
+use Rattle.std.proofs.lemmas.Bool.{or_left, or_right}
 use Rattle.std.proofs.lemmas.List.{take_more}
 use Rattle.std.specs.Prelude.{◌||◌, ◌==◌, IfErr, OnOk, Result, Ok, Err}
-use Rattle.std.specs.List.{list_any}
 use Rattle.std.proofs.lemmas.List.Folds.{list_any-append}
 use Rattle.msg_names.specs.declared.value.ClassRef.{ClassRef}
+use Rattle.msg_tables.specs.Affected.{at_most_one}
 use Rattle.msg_tables.specs.Chain.{is_member}
 use Rattle.msg_tables.specs.declared.change.Change.{Change}
 use Rattle.msg_tables.specs.declared.entry.Entry.{Entry}
-use Rattle.msg_tables.specs.Journal.{classes_of, places_of}
+use Rattle.msg_tables.specs.Journal.{classes_of, place_of, places_of}
 use Rattle.msg_tables.specs.Log.{Log, chain_at, table}
 use Rattle.msg_tables.specs.Making.{IsMade, IsMarkedBelow, MarksTold, ReachesAll, is_told}
 use Rattle.msg_tables.specs.Marking.{is_marked}
 use Rattle.msg_tables.specs.Order.{IsOrder}
 use Rattle.msg_tables.specs.Several.{and_all, is_affected_by_all, is_below, is_of_one}
-use Rattle.msg_tables.specs.Stands.{StandsAt}
 use Rattle.msg_tables.specs.View.{TablesView}
 use Rattle.msg_tables.proofs.AffectedAllLemmas.{below-append, told-all}
-use Rattle.msg_tables.proofs.EntryLemmas.{or-none}
 use Rattle.msg_tables.proofs.NoteLemmas.{places-append, classes-append}
 use Rattle.msg_tables.proofs.PresenceLemmas.{Ordered}
 use Rattle.msg_tables.proofs.ToldLemmas.{told-only}
@@ -60,6 +59,19 @@ marks-next t es i e first mid last inside is so-far one h stands c lt =
     ∙ or-over (is_marked first c) (is_told h (take i es) c) (is_told h (e ∷ []) c)
     ∙ ap (λ b. is_marked first c || b) (sym (told-append h (take i es) (e ∷ []) c))
     ∙ ap (λ ys. is_marked first c || is_told h ys c) (sym (take_more es i e inside ∙ ap (λ x. take i es ++ x ∷ []) (sym is)))
+
+-- what an entry describes is below its place
+pub told-below : (h : Log) (e : Entry) (p c : ClassRef) → place_of e ≡ Some p → is_member p (chain_at h c) ≡ true → is_told h (e ∷ []) c ≡ true
+told-below h e p c is below =
+    or_right (is_of_one (classes_of (e ∷ [])) c) (is_below h (places_of (e ∷ [])) c)
+    (ap (λ o. is_below h (at_most_one o ++ []) c) is ∙ or_left (is_member p (chain_at h c)) false below)
+
+-- what is below a place stays marked if more is
+pub stays-marked : (t : TablesView) (es : List Entry) (first last : List Bool) (p : ClassRef) → MarksTold t es first last → IsMarkedBelow t first p → IsMarkedBelow t last p
+stays-marked t es first last p marks is h stands c lt below = marks h stands c lt ∙ or_left (is_marked first c) (is_told h es c) (is h stands c lt below)
+
+pub marked-below : (t : TablesView) (e : Entry) (first last : List Bool) (p : ClassRef) → MarksTold t (e ∷ []) first last → place_of e ≡ Some p → IsMarkedBelow t last p
+marked-below t e first last p marks is h stands c lt below = marks h stands c lt ∙ or_right (is_marked first c) (is_told h (e ∷ []) c) (told-below h e p c is below)
 
 -- ---- a list
 

@@ -1,7 +1,6 @@
 -- After all changes of a list are made, it affects exactly what its journal describes.
 use Rattle.std.proofs.Common.{◌≡◌, ℕ, zero, suc, List, [], ◌∷◌, ◌++◌, Option, Some, None, Bool, true, false, refl, sym, ap, ap₂, ◌∙◌, subst, length}
 use Rattle.std.specs.Prelude.{◌||◌, ◌==◌, if◌then◌else◌, is_some, slice_set}
-use Rattle.std.specs.List.{list_any}
 use Rattle.std.specs.Option.{option_map_or}
 use Rattle.std.proofs.lemmas.List.Folds.{list_any-append}
 use Rattle.msg_names.proofs.ClassRefLemmas.{same_class-is, same_class-refl}

@@ -1,5 +1,5 @@
 -- The changes that take a journal back are those that take its list back.
-use Rattle.std.proofs.Common.{◌≡◌, ◌<◌, ◌+◌, ℕ, zero, suc, List, [], ◌∷◌, ◌++◌, append_assoc, append-nil, length, Option, Some, None, Bool, true, false, cond, refl, sym, ap, ap₂, ◌∙◌, arith}
+use Rattle.std.proofs.Common.{◌≡◌, ◌<◌, ℕ, zero, suc, List, [], ◌∷◌, ◌++◌, append_assoc, append-nil, Option, Some, None, Bool, true, false, cond, refl, sym, ap, ap₂, ◌∙◌, arith}
 use Rattle.std.specs.Prelude.{is_some, reverse, IsSome}
 use Rattle.std.specs.Option.{option_map_or}
 use Rattle.std.proofs.lemmas.List.{map-append, reverse-append}
@@ -12,7 +12,7 @@ use Rattle.msg_names.specs.declared.value.Selector.{Selector}
 use Rattle.msg_names.specs.declared.value.ImpRef.{ImpRef}
 use Rattle.msg_names.specs.Number.{selector_number, imp_number, imp_ref_of, selector_of}
 use Rattle.msg_tables.specs.declared.change.Change.{Change}
-use Rattle.msg_tables.specs.declared.change.Change.TheVariants.{Add, Replace, SetImp, Exchange, Attach, AddClass, Remove, DisposeClass}
+use Rattle.msg_tables.specs.declared.change.Change.TheVariants.{Replace, SetImp, Exchange, Attach, AddClass, Remove, DisposeClass}
 use Rattle.msg_tables.specs.declared.edit.MethodRow.{MethodRow}
 use Rattle.msg_tables.specs.declared.edit.Edit.TheVariants as edit
 use Rattle.msg_tables.specs.declared.entry.Entry.{Entry}

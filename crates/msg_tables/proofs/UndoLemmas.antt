@@ -1,26 +1,23 @@
 -- The changes that take a change back.
-use Rattle.std.proofs.Common.{◌≡◌, ℕ, List, [], ◌∷◌, ◌++◌, Option, Some, None, Bool, true, false, cond, refl, sym, ap, ap₂, ◌∙◌, subst, append-nil}
-use Rattle.std.specs.Prelude.{◌==◌, ◌&&◌, is_some, option_map}
-use Rattle.std.proofs.lemmas.Option.{same_Some}
+use Rattle.std.proofs.Common.{◌≡◌, ℕ, List, [], ◌∷◌, ◌++◌, Option, Some, None, Bool, true, false, cond, refl, sym, ap, ap₂, ◌∙◌}
+use Rattle.std.specs.Prelude.{◌==◌, ◌&&◌, is_some}
 use Rattle.msg_names.specs.declared.value.ClassRef.{ClassRef}
 use Rattle.msg_names.specs.Number.{selector_number, imp_number, imp_ref_of}
 use Rattle.msg_names.specs.declared.value.Selector.{Selector}
 use Rattle.msg_names.specs.declared.value.ImpRef.{ImpRef}
 use Rattle.msg_names.specs.ClassRef.{same_class}
 use Rattle.msg_tables.specs.declared.change.Change.{Change}
-use Rattle.msg_tables.specs.declared.change.Change.TheVariants.{Add, Replace, SetImp, Exchange, Attach, AddClass}
+use Rattle.msg_tables.specs.declared.change.Change.TheVariants.{Replace, SetImp, Exchange}
 use Rattle.msg_tables.specs.Rows.{Row, ClassTable, own, holder_at, lookup_at}
 use Rattle.msg_tables.specs.After.{set_own, set_method, rows_after, row, table_after}
 use Rattle.msg_tables.specs.Chain.{chain_of}
-use Rattle.msg_tables.specs.Log.{Log, table, table_after_all, lookup}
+use Rattle.msg_tables.specs.Log.{table_after_all}
 use Rattle.msg_names.proofs.TestLemmas.{equal, same_number}
 use Rattle.msg_names.proofs.ClassRefLemmas.{same_class-is, same_class-refl}
 use Rattle.msg_tables.proofs.OwnLemmas.{own-set_same, own-set_other, set_own-own, some-set_own, lookup-holder}
 use Rattle.msg_tables.proofs.LawLemmas.{some-set_method}
-use Rattle.msg_tables.specs.Several.{and_all}
 use Rattle.msg_tables.specs.Undo.{old_at}
 use Rattle.msg_tables.proofs.RowSetLemmas.{set_own-twice, set_own-apart}
-use Rattle.msg_tables.proofs.SeveralLemmas.{table-and_all}
 
 -- ---- a method that was replaced
 

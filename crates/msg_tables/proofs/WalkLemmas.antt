@@ -1,19 +1,19 @@
 -- A walk over a class and those below it.
-use Rattle.std.proofs.Common.{◌≡◌, ◌<◌, ◌≤◌, ◌+◌, ◌++◌, ◌⊎◌, inl, inr, ℕ, suc, List, [], ◌∷◌, length, length-append, Option, Some, None, Bool, true, false, cond, refl, sym, ap, ◌∙◌, subst, arith}
-use Rattle.std.specs.Prelude.{◌==◌, ◌||◌, nat_lt}
+use Rattle.std.proofs.Common.{◌≡◌, ◌<◌, ◌≤◌, ◌⊎◌, inl, inr, ℕ, zero, suc, List, [], ◌∷◌, length, Option, Some, None, Bool, true, false, cond, refl, sym, ap, ◌∙◌, subst, arith}
+use Rattle.std.specs.Prelude.{◌==◌, IfSome, nat_lt}
 use Rattle.std.proofs.lemmas.Bool.{true≢false, or_cases, or_from, false_from_ne_true, cases_Bool}
 use Rattle.std.proofs.lemmas.Bool.Decides.{nat_tests}
-use Rattle.std.proofs.lemmas.List.{append_assoc}
-use Rattle.std.proofs.lemmas.List.Folds.{list_any-append}
 use Rattle.std.proofs.lemmas.Option.{same_Some}
 use Rattle.msg_names.proofs.TestLemmas.{same_number}
 use Rattle.msg_tables.specs.declared.presence.Presence.{Presence}
 use Rattle.msg_tables.specs.After.{of_class}
 use Rattle.msg_tables.specs.Chain.{is_present, descends}
-use Rattle.msg_tables.specs.Preorder.{is_in, deeper, first_depth, AreFirstAndOnce, AreOnce, IsFollowed, AreFollowed, next_in, AreLinked, depth_at, next_at, HavePreorder}
+use Rattle.msg_tables.specs.PreorderView.{PreorderView}
+use Rattle.msg_tables.specs.Preorder.{is_in, deeper, AreOnce, IsFollowed, AreFollowed, next_in, AreLinked, depth_at, next_at, HavePreorder}
+use Rattle.msg_tables.specs.Walk.{HasLinks, IsWalkOver, if_deeper, walk}
 use Rattle.msg_tables.proofs.DescentLemmas.{absent-below}
-use Rattle.msg_tables.proofs.OrderLemmas.{count-le}
-use Rattle.msg_tables.proofs.PreorderLemmas.{first-in, later-in, out-deeper, deeper-none}
+use Rattle.msg_tables.proofs.OrderLemmas.{count-le, present-inside}
+use Rattle.msg_tables.proofs.PreorderLemmas.{first-in, later-in, in-deeper, out-deeper}
 
 -- ---- what comes after a class
 
@@ -59,147 +59,120 @@ tail-of supers depth next all k (x ∷ ks) order links e = at (or_cases (x == k)
           shorter = omega (arith, tail.shorter);
         }
 
+-- the next of a list is one of it
+next-in : (depth : ℕ → ℕ) (n : ℕ) (ks : List ℕ) → ((j : ℕ) → is_in j ks ≡ true → j < n) → IfSome (next_in depth ks) (λ j. j < n)
+next-in depth n [] inside = tt
+next-in depth n (x ∷ ks) inside = at (depth x == 0)
+  where
+    at : (b : Bool) → IfSome (cond b None (Some x)) (λ j. j < n)
+    at true = tt
+    at false = inside x (first-in x ks)
+
+-- ---- the classes that are deeper
+
+few-deeper : (f : ℕ → ℕ) (d : ℕ) (ks : List ℕ) → length (deeper f d ks) ≤ length ks
+few-deeper f d [] = omega arith
+few-deeper f d (k ∷ ks) = at (nat_lt d (f k)) (few-deeper f d ks)
+  where
+    at : (b : Bool) → length (deeper f d ks) ≤ length ks → length (cond b (k ∷ deeper f d ks) []) ≤ suc (length ks)
+    at true few = omega (arith, few)
+    at false few = omega arith
+
+once-deeper : (f : ℕ → ℕ) (d : ℕ) (ks : List ℕ) → AreOnce ks → AreOnce (deeper f d ks)
+once-deeper f d [] e = tt
+once-deeper f d (k ∷ ks) e = at (nat_lt d (f k)) (once-deeper f d ks e.1)
+  where
+    at : (b : Bool) → AreOnce (deeper f d ks) → AreOnce (cond b (k ∷ deeper f d ks) [])
+    at true rest = (out-deeper f d k ks e.0, rest)
+    at false rest = tt
+
+-- the links of a list lead over those that are deeper
+over-deeper : (depth : ℕ → ℕ) (next : ℕ → Option ℕ) (d : ℕ) (ks : List ℕ) → AreLinked depth next ks → IsWalkOver depth next d (if_deeper depth d (next_in depth ks)) (deeper depth d ks)
+over-deeper depth next d [] links = refl
+over-deeper depth next d (x ∷ ks) links = at (depth x == 0) (nat_lt d (depth x)) refl refl (over-deeper depth next d ks links.1)
+  where
+    at : (z t : Bool) → (depth x == 0) ≡ z → nat_lt d (depth x) ≡ t → IsWalkOver depth next d (if_deeper depth d (next_in depth ks)) (deeper depth d ks)
+        → IsWalkOver depth next d (if_deeper depth d (cond z None (Some x))) (cond t (x ∷ deeper depth d ks) [])
+    at true true root deep rest = absurd (grind (arith, nat_tests, deep, same_number (depth x) 0 root))
+    at true false root deep rest = refl
+    at false true root deep rest =
+        subst (λ b. IsWalkOver depth next d (cond b (Some x) None) (x ∷ deeper depth d ks)) (sym deep)
+        (refl, subst (λ o. IsWalkOver depth next d (if_deeper depth d o) (deeper depth d ks)) (sym links.0) rest)
+    at false false root deep rest = subst (λ b. IsWalkOver depth next d (cond b (Some x) None) []) (sym deep) refl
+
 -- ---- the walk
 
--- the classes so far, and the one that comes next
-pub record Walks (supers : List (Option Presence)) (depths : List ℕ) (nexts : List (Option ℕ)) (k : ℕ) (classes : List ℕ) (at : Option ℕ) : Type 0 where
+pub walk-over : (depth : ℕ → ℕ) (next : ℕ → Option ℕ) (d n : ℕ) (at : Option ℕ) (ks : List ℕ) → IsWalkOver depth next d at ks → length ks ≤ n → walk depth next d n at ≡ ks
+walk-over depth next d zero at [] e few = refl
+walk-over depth next d (suc n) at [] e few = ap (walk depth next d (suc n)) e
+walk-over depth next d zero at (k ∷ ks) e few = absurd (omega (arith, few))
+walk-over depth next d (suc n) at (k ∷ ks) e few =
+    ap (walk depth next d (suc n)) e.0
+    ∙ ap (λ js. k ∷ js) (walk-over depth next d n (if_deeper depth d (next k)) ks e.1 (omega (arith, few)))
+
+-- a walk that isn't at its end
+pub record Ahead (p : PreorderView) (d : ℕ) (k : ℕ) (classes : List ℕ) : Type 0 where
   pub rest : List ℕ
-  pub here : at ≡ next_in (depth_at depths) rest
-  pub linked : AreLinked (depth_at depths) (next_at nexts) rest
-  pub all : (j : ℕ) → (is_in j classes || is_in j (deeper (depth_at depths) (depth_at depths k) rest)) ≡ descends supers (of_class k) (of_class j)
-  pub present : (j : ℕ) → is_in j rest ≡ true → is_present supers j ≡ true
-  pub few : length classes + length rest ≤ length supers
-  pub once : AreOnce (classes ++ rest)
-  pub first : (more : List ℕ) × (classes ≡ k ∷ more)
+  pub is : classes ≡ k ∷ rest
+  pub over : IsWalkOver (depth_at p.depths) (next_at p.nexts) d (if_deeper (depth_at p.depths) d (next_at p.nexts k)) rest
 
-or-false : (b : Bool) → (b || false) ≡ b
-or-false true = refl
-or-false false = refl
-
-or-one : (a b c : Bool) → ((a || (b || false)) || c) ≡ (a || (b || c))
-or-one true b c = refl
-or-one false true c = refl
-or-one false false c = refl
-
-pub walk-begins : (supers : List (Option Presence)) (depths : List ℕ) (nexts : List (Option ℕ)) (k : ℕ) → HavePreorder supers depths nexts → is_present supers k ≡ true → Walks supers depths nexts k (k ∷ []) (next_at nexts k)
-walk-begins supers depths nexts k are there =
-    let tail = tail-of supers (depth_at depths) (next_at nexts) are.classes k are.classes are.is.followed are.is.linked (are.present k ∙ there) in
+pub walk-ahead : (p : PreorderView) (d k : ℕ) (at : Option ℕ) (classes : List ℕ) → at ≡ Some k → IsWalkOver (depth_at p.depths) (next_at p.nexts) d at classes → Ahead p d k classes
+walk-ahead p d k at [] is over = cc
+walk-ahead p d k at (x ∷ ks) is over =
+    let same : x ≡ k = same_Some x k (sym over.0 ∙ is) in
     record {
-      rest = tail.rest;
-      here = tail.here;
-      linked = tail.linked;
-      all = λ j. ap (λ b. b || is_in j (deeper (depth_at depths) (depth_at depths k) tail.rest)) (or-false (k == j)) ∙ at tail j (cases_Bool (is_present supers j));
-      present = λ j e. sym (are.present j) ∙ tail.sub j e;
-      few = omega (arith, tail.shorter, are.count, count-le supers);
-      once = tail.once;
-      first = ([], refl);
+      rest = ks;
+      is = ap (λ z. z ∷ ks) same;
+      over = subst (λ z. IsWalkOver (depth_at p.depths) (next_at p.nexts) d (if_deeper (depth_at p.depths) d (next_at p.nexts z)) ks) same over.1;
+    }
+
+-- the walk from a class of such an order
+pub record WalksFrom (supers : List (Option Presence)) (p : PreorderView) (k : ℕ) : Type 0 where
+  pub rest : List ℕ
+  pub over : IsWalkOver (depth_at p.depths) (next_at p.nexts) (depth_at p.depths k) (Some k) (k ∷ rest)
+  pub below : (j : ℕ) → is_in j (k ∷ rest) ≡ descends supers (of_class k) (of_class j)
+  pub linked : (j : ℕ) → is_in j (k ∷ rest) ≡ true → HasLinks p j
+  pub once : AreOnce (k ∷ rest)
+  pub few : suc (length rest) ≤ length p.depths
+
+pub walks-from : (supers : List (Option Presence)) (p : PreorderView) (k : ℕ) → HavePreorder supers p.depths p.nexts → is_present supers k ≡ true → WalksFrom supers p k
+walks-from supers p k are there =
+    let tail = tail-of supers depth next are.classes k are.classes are.is.followed are.is.linked (are.present k ∙ there) in
+    let rest = deeper depth (depth k) tail.rest in
+    let fewer = few-deeper depth (depth k) tail.rest in
+    record {
+      rest = rest;
+      over = (refl, subst (λ o. IsWalkOver depth next (depth k) (if_deeper depth (depth k) o) rest) (sym tail.here) (over-deeper depth next (depth k) tail.rest tail.linked));
+      below = λ j. below tail j (cases_Bool (is_present supers j));
+      linked = λ j e. links j (sym (are.present j) ∙ within tail j (or_cases (k == j) (is_in j rest) e));
+      once = (out-deeper depth (depth k) k tail.rest tail.once.0, once-deeper depth (depth k) tail.rest tail.once.1);
+      few = omega (arith, fewer, tail.shorter, are.count, count-le supers, are.depth_room);
     }
   where
-    at : (tail : Tail supers (depth_at depths) (next_at nexts) are.classes k are.classes) (j : ℕ) → (is_present supers j ≡ true) ⊎ (is_present supers j ≡ false) → is_in j (k ∷ deeper (depth_at depths) (depth_at depths k) tail.rest) ≡ descends supers (of_class k) (of_class j)
-    at tail j (inl e) = tail.followed.below j (are.present j ∙ e)
-    at tail j (inr e) =
+    depth : ℕ → ℕ
+    depth = depth_at p.depths
+
+    next : ℕ → Option ℕ
+    next = next_at p.nexts
+
+    below : (tail : Tail supers depth next are.classes k are.classes) (j : ℕ) → (is_present supers j ≡ true) ⊎ (is_present supers j ≡ false) → is_in j (k ∷ deeper depth (depth k) tail.rest) ≡ descends supers (of_class k) (of_class j)
+    below tail j (inl e) = tail.followed.below j (are.present j ∙ e)
+    below tail j (inr e) =
         let other : (k == j) ≡ false = false_from_ne_true (k == j) (λ h. true≢false (sym there ∙ ap (is_present supers) (same_number k j h) ∙ e)) in
         let out : is_in j tail.rest ≡ false = false_from_ne_true (is_in j tail.rest) (λ h. true≢false (sym (tail.sub j h) ∙ are.present j ∙ e)) in
-        or_from (k == j) (is_in j (deeper (depth_at depths) (depth_at depths k) tail.rest)) other (out-deeper (depth_at depths) (depth_at depths k) j tail.rest out)
+        or_from (k == j) (is_in j (deeper depth (depth k) tail.rest)) other (out-deeper depth (depth k) j tail.rest out)
         ∙ sym (absent-below supers (of_class k) (of_class j) e)
 
-in-push : (j k : ℕ) (ks : List ℕ) → is_in j (ks ++ k ∷ []) ≡ (is_in j ks || ((k == j) || false))
-in-push j k [] = refl
-in-push j k (x ∷ ks) = ap (λ b. (x == j) || b) (in-push j k ks) ∙ assoc (x == j) (is_in j ks) ((k == j) || false)
-  where
-    assoc : (a b c : Bool) → (a || (b || c)) ≡ ((a || b) || c)
-    assoc true b c = refl
-    assoc false b c = refl
+    within : (tail : Tail supers depth next are.classes k are.classes) (j : ℕ) → ((k == j) ≡ true) ⊎ (is_in j (deeper depth (depth k) tail.rest) ≡ true) → is_in j are.classes ≡ true
+    within tail j (inl h) = subst (λ z. is_in z are.classes ≡ true) (same_number k j h) (are.present k ∙ there)
+    within tail j (inr h) = tail.sub j (in-deeper depth (depth k) j tail.rest h)
 
--- what is in a list once is in its beginning once
-once-left : (xs ys : List ℕ) → AreOnce (xs ++ ys) → AreOnce xs
-once-left [] ys e = tt
-once-left (x ∷ xs) ys e = ((or_false_left (is_in x xs) (is_in x ys) (sym (list_any-append (λ z. z == x) xs ys) ∙ e.0)), once-left xs ys e.1)
-  where
-    or_false_left : (a b : Bool) → (a || b) ≡ false → a ≡ false
-    or_false_left true b e = e
-    or_false_left false b e = refl
+    inside : (j : ℕ) → is_in j are.classes ≡ true → j < length supers
+    inside j e = present-inside supers j (sym (are.present j) ∙ e)
 
--- what a list begins with that has such a next one
-record Begins (depth : ℕ → ℕ) (c : ℕ) (ks : List ℕ) : Type 0 where
-  pub rest : List ℕ
-  pub is : ks ≡ c ∷ rest
-
-begins : (depth : ℕ → ℕ) (c : ℕ) (ks : List ℕ) → Some c ≡ next_in depth ks → Begins depth c ks
-begins depth c [] e = cc
-begins depth c (x ∷ ks) e = at (depth x == 0) e
-  where
-    at : (b : Bool) → Some c ≡ cond b None (Some x) → Begins depth c (x ∷ ks)
-    at true e = cc
-    at false e = record { rest = ks; is = ap (λ z. z ∷ ks) (sym (same_Some c x e)) }
-
--- nothing comes next if nothing is left, or a root class is
-root-first : (depth : ℕ → ℕ) (ks : List ℕ) → None ≡ next_in depth ks → first_depth depth ks ≡ 0
-root-first depth [] e = refl
-root-first depth (x ∷ ks) e = at (depth x == 0) refl e
-  where
-    at : (b : Bool) → (depth x == 0) ≡ b → None ≡ cond b None (Some x) → depth x ≡ 0
-    at true t e = same_number (depth x) 0 t
-    at false t e = cc
-
-module _ (supers : List (Option Presence)) (depths : List ℕ) (nexts : List (Option ℕ)) (k : ℕ) (classes : List ℕ) where
-  -- the class that comes next is one of those present, and there is room for it
-  pub walk-next : (c : ℕ) → Walks supers depths nexts k classes (Some c) → is_present supers c ≡ true
-  walk-next c walks =
-      let first = begins (depth_at depths) c walks.rest walks.here in
-      walks.present c (ap (is_in c) first.is ∙ first-in c first.rest)
-
-  pub walk-room : (c : ℕ) → Walks supers depths nexts k classes (Some c) → length classes < length supers
-  walk-room c walks =
-      let first = begins (depth_at depths) c walks.rest walks.here in
-      let count : length walks.rest ≡ suc (length first.rest) = ap length first.is in
-      omega (arith, walks.few, count)
-
-  pub walk-more : (c : ℕ) → Walks supers depths nexts k classes (Some c) → depth_at depths k < depth_at depths c → Walks supers depths nexts k (classes ++ c ∷ []) (next_at nexts c)
-  walk-more c walks deep =
-      let first = begins (depth_at depths) c walks.rest walks.here in
-      let links : AreLinked (depth_at depths) (next_at nexts) (c ∷ first.rest) = subst (AreLinked (depth_at depths) (next_at nexts)) first.is walks.linked in
-      let count : length walks.rest ≡ suc (length first.rest) = ap length first.is in
-      record {
-        rest = first.rest;
-        here = links.0;
-        linked = links.1;
-        all = λ j. all j first.rest (sym (ap (λ ks. is_in j classes || is_in j (deeper (depth_at depths) (depth_at depths k) ks)) first.is) ∙ walks.all j);
-        present = λ j e. walks.present j (ap (is_in j) first.is ∙ later-in j c first.rest e);
-        few = omega (arith, length-append classes (c ∷ []), walks.few, count);
-        once = subst AreOnce (ap (λ ks. classes ++ ks) first.is ∙ sym (append_assoc classes (c ∷ []) first.rest)) walks.once;
-        first = (walks.first.0 ++ c ∷ [], ap (λ ks. ks ++ c ∷ []) walks.first.1);
-      }
-    where
-      test : nat_lt (depth_at depths k) (depth_at depths c) ≡ true
-      test = grind (arith, nat_tests, deep)
-
-      all : (j : ℕ) (rest : List ℕ) → (is_in j classes || is_in j (deeper (depth_at depths) (depth_at depths k) (c ∷ rest))) ≡ descends supers (of_class k) (of_class j)
-          → (is_in j (classes ++ c ∷ []) || is_in j (deeper (depth_at depths) (depth_at depths k) rest)) ≡ descends supers (of_class k) (of_class j)
-      all j rest e =
-          ap (λ b. b || is_in j (deeper (depth_at depths) (depth_at depths k) rest)) (in-push j c classes)
-          ∙ or-one (is_in j classes) (c == j) (is_in j (deeper (depth_at depths) (depth_at depths k) rest))
-          ∙ sym (ap (λ b. is_in j classes || is_in j (cond b (c ∷ deeper (depth_at depths) (depth_at depths k) rest) [])) test)
-          ∙ e
-
-  -- if what comes next isn't deeper, the walk is at its end
-  shallow : (at : Option ℕ) (walks : Walks supers depths nexts k classes at) → first_depth (depth_at depths) walks.rest ≤ depth_at depths k → (j : ℕ) → is_in j classes ≡ descends supers (of_class k) (of_class j)
-  shallow at walks low j =
-      sym (or-false (is_in j classes))
-      ∙ sym (ap (λ ks. is_in j classes || is_in j ks) (deeper-none (depth_at depths) (depth_at depths k) walks.rest low))
-      ∙ walks.all j
-
-  -- the classes so far are each there once, and the first is the one that was asked for
-  pub walk-once : (at : Option ℕ) → Walks supers depths nexts k classes at → AreFirstAndOnce k classes
-  walk-once at walks = (once-left classes walks.rest walks.once, walks.first.0, walks.first.1)
-
-  pub walk-stops : (c : ℕ) → Walks supers depths nexts k classes (Some c) → depth_at depths c ≤ depth_at depths k → (j : ℕ) → is_in j classes ≡ descends supers (of_class k) (of_class j)
-  walk-stops c walks low =
-      let first = begins (depth_at depths) c walks.rest walks.here in
-      let same : first_depth (depth_at depths) walks.rest ≡ depth_at depths c = ap (first_depth (depth_at depths)) first.is in
-      shallow (Some c) walks (omega (arith, same, low))
-
-  pub walk-ends : Walks supers depths nexts k classes None → (j : ℕ) → is_in j classes ≡ descends supers (of_class k) (of_class j)
-  walk-ends walks =
-      let root = root-first (depth_at depths) walks.rest walks.here in
-      shallow None walks (omega (arith, root))
+    links : (j : ℕ) → is_present supers j ≡ true → HasLinks p j
+    links j e =
+        let tail = tail-of supers depth next are.classes j are.classes are.is.followed are.is.linked (are.present j ∙ e) in
+        let here = present-inside supers j e in
+        let all : IfSome (next_in depth tail.rest) (λ i. i < length p.depths) = next-in depth (length p.depths) tail.rest (λ i h. (let inner = inside i (tail.sub i h) in omega (arith, inner, are.depth_room))) in
+        (omega (arith, here, are.next_room), subst (λ o. IfSome o (λ i. i < length p.depths)) (sym tail.here) all)

@@ -1,6 +1,6 @@
 -- Memory that is lacking, and room that is kept.
-use Rattle.std.proofs.Common.{◌≡◌, ◌<◌, ◌≤◌, ◌+◌, ◌⊎◌, inl, inr, ℕ, zero, suc, List, [], ◌∷◌, ◌++◌, take, length, length-append, map, Option, Some, None, Bool, true, false, cond, refl, sym, ap, ◌∙◌, subst, slice_index_or, arith}
-use Rattle.std.specs.Prelude.{is_some, reverse, IsSome}
+use Rattle.std.proofs.Common.{◌≡◌, ◌<◌, ◌≤◌, ◌+◌, ◌⊎◌, inl, inr, ℕ, suc, List, [], ◌∷◌, ◌++◌, take, length, length-append, Option, Some, None, Bool, true, false, cond, refl, sym, ap, ◌∙◌, subst, slice_index_or, arith}
+use Rattle.std.specs.Prelude.{is_some, reverse}
 use Rattle.std.specs.Option.{option_map_or}
 use Rattle.std.proofs.lemmas.List.{length-map, length-reverse, take_more}
 use Rattle.msg_names.specs.ClassRef.{same_class, slot_of}
@@ -9,12 +9,12 @@ use Rattle.msg_tables.specs.declared.change.Change.TheVariants.{AddClass, Remove
 use Rattle.msg_names.specs.declared.value.ClassRef.{ClassRef}
 use Rattle.msg_names.proofs.ClassRefLemmas.{same_class-refl}
 use Rattle.msg_tables.specs.After.{of_class, of_meta, rows_after, rows_at, table_after}
-use Rattle.msg_tables.specs.Chain.{is_present, presence_of}
+use Rattle.msg_tables.specs.Chain.{presence_of}
 use Rattle.msg_tables.specs.Edits.{EditLacksRoom, IsOfTables, edited}
 use Rattle.msg_tables.specs.Journal.{edit_undo, entry_count, cover_all, undo_own}
 use Rattle.msg_tables.specs.ListLaws.{HoldsAtMost}
 use Rattle.msg_tables.specs.Log.{Log, and_then, table, table_after_all}
-use Rattle.msg_tables.specs.Making.{AreHeld, WantsMemory, WantsMore}
+use Rattle.msg_tables.specs.Making.{AreHeld}
 use Rattle.msg_rows.specs.RowList.{HaveGrown, own_in}
 use Rattle.msg_tables.specs.Rows.{Row}
 use Rattle.msg_tables.specs.Several.{and_all}
@@ -24,7 +24,6 @@ use Rattle.msg_tables.specs.View.{IsKept, IsWithinRoom, LacksRoom, TablesView, k
 use Rattle.msg_tables.specs.declared.change.Change.{Change}
 use Rattle.msg_tables.specs.declared.edit.Edit.{Edit}
 use Rattle.msg_tables.specs.declared.edit.Edit.TheVariants as edit
-use Rattle.msg_tables.specs.declared.entry.Entry.{Entry}
 use Rattle.msg_tables.specs.declared.presence.Presence.{Presence}
 use Rattle.msg_tables.proofs.HoldsLemmas.{pairs_at-append, pairs_at-rows_at, class-apart, meta-apart}
 use Rattle.msg_tables.proofs.LogLemmas.{table-and_then}

@@ -1,6 +1,6 @@
 -- The changes that take one change back leave the tables as they were, except for the order of rows
 -- that no lookup compares.
-use Rattle.std.proofs.Common.{◌≡◌, ◌≢◌, ◌<◌, ◌≤◌, ◌+◌, ℕ, zero, suc, List, [], ◌∷◌, ◌++◌, length, Option, Some, None, Bool, true, false, cond, map, reverse, refl, sym, ap, ap₂, ◌∙◌, subst, append-nil, append_assoc, arith}
+use Rattle.std.proofs.Common.{◌≡◌, ◌<◌, ◌+◌, ℕ, zero, suc, List, [], ◌∷◌, ◌++◌, length, Option, Some, None, Bool, true, false, cond, reverse, refl, sym, ap, ap₂, ◌∙◌, subst, append-nil, append_assoc, arith}
 use Rattle.std.specs.Prelude.{◌==◌, ◌&&◌, not, nat_lt, is_some, is_none, slice_set}
 use Rattle.std.specs.List.{list_all}
 use Rattle.std.specs.Option.{option_map_or}
@@ -16,17 +16,17 @@ use Rattle.msg_names.specs.Number.{selector_number, selector_of, imp_number, imp
 use Rattle.msg_tables.specs.declared.change.Change.{Change}
 use Rattle.msg_tables.specs.declared.change.Change.TheVariants.{Add, Replace, SetImp, Exchange, Attach, AddClass, Remove, DisposeClass}
 use Rattle.msg_tables.specs.declared.presence.Presence.{Presence}
-use Rattle.msg_tables.specs.After.{of_class, of_meta, row, rows_at, set_own, without_own, without_class, rows_after, supers_after, table_after}
+use Rattle.msg_tables.specs.After.{of_class, of_meta, row, rows_at, without_own, without_class, rows_after, supers_after, table_after}
 use Rattle.msg_tables.specs.Chain.{presence_of, is_present}
 use Rattle.msg_tables.specs.Log.{table_after_all}
 use Rattle.msg_tables.specs.Origin.{OriginView}
 use Rattle.msg_rows.specs.RowList.{or_else}
-use Rattle.msg_tables.specs.Rows.{Row, ClassTable, is_at, own, holder_at, lookup_at}
-use Rattle.msg_tables.specs.Undo.{AreAlike, are_numbered, covering, covering_all, count_at, imps_of, is_numbered, old_at, removing, undo}
+use Rattle.msg_tables.specs.Rows.{Row, ClassTable, is_at, own}
+use Rattle.msg_tables.specs.Undo.{AreAlike, are_numbered, covering, covering_all, count_at, imps_of, is_numbered, removing, undo}
 use Rattle.msg_tables.proofs.AgainstLemmas.{May, against}
 use Rattle.msg_tables.proofs.AlikeLemmas.{SameRows, alike-is, rows-alike}
-use Rattle.msg_tables.proofs.ImpsLemmas.{last_of, drop_end, drop-back, own-imps, imps-append, count-append, imps-without, count-without, imps-without_class, count-without_class}
-use Rattle.msg_tables.proofs.KeptLemmas.{Kept, Makes, Leaves, makes, leaves, is_sound_row}
+use Rattle.msg_tables.proofs.ImpsLemmas.{drop_end, drop-back, own-imps, imps-append, count-append, imps-without, count-without, imps-without_class, count-without_class}
+use Rattle.msg_tables.proofs.KeptLemmas.{Kept, makes, leaves, is_sound_row}
 use Rattle.msg_tables.proofs.LimitLemmas.{none_holds}
 use Rattle.msg_tables.proofs.OwnLemmas.{own-append}
 use Rattle.msg_tables.proofs.UndoLemmas.{replace-back, set-back, exchange-back, after_all-append}

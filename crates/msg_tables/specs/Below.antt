@@ -1,6 +1,5 @@
 -- A class reference and those below it.
 use Rattle.std.specs.Prelude.{◌≡◌, ◌&&◌, ℕ, List, Bool, if◌then◌else◌}
-use Rattle.std.specs.Vec.{vec_capacity}
 use Rattle.msg_names.specs.declared.value.ClassRef.{ClassRef}
 use Rattle.msg_tables.specs.Chain.{is_member}
 use Rattle.msg_tables.specs.Log.{Log, chain_at}
@@ -12,8 +11,6 @@ pub record BelowView : Type 0 where
   pub classes : List ℕ
   pub own : Bool
   pub meta : Bool
-  -- the number of classes that there is room for
-  pub room : ℕ
 
 -- the set has this class reference
 abbrev pub covers : BelowView → ClassRef → Bool
@@ -25,4 +22,4 @@ AreBelow h class b = (c : ClassRef) → covers b c ≡ is_member class (chain_at
 
 -- the contracts' view of the set
 abbrev pub below_of : Inside → BelowView
-below_of b = record { classes = b.classes.items; own = b.own; meta = b.meta; room = vec_capacity b.classes }
+below_of b = record { classes = b.walk; own = b.own; meta = b.meta }

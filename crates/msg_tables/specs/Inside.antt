@@ -31,7 +31,7 @@ pub record AreSoundTables (t : Inside) : Type 0 where
   -- and there is room for the others
   pub room : length t.supers.items ≤ vec_capacity t.order
   -- and they are in an order in which those below a class come right after it
-  pub preorder : HavePreorder t.supers.items t.preorder.depths.items t.preorder.nexts.items
+  pub preorder : HavePreorder t.supers.items t.preorder.depths t.preorder.nexts
   -- there is a list for each class reference
   pub lists : length t.lists ≡ 2 * length t.supers.items
   pub listed : list_all (are_listed (last_imp t.counts)) (rows_of t.lists) ≡ true

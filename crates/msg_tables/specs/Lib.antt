@@ -24,7 +24,9 @@ pub mod Opening
 pub mod Order
 pub mod Origin
 pub mod Preorder
+pub mod PreorderView
 pub mod Presence
+pub mod Recent
 pub mod Refusal
 pub mod RoomLaws
 pub mod Rows
@@ -32,4 +34,5 @@ pub mod Several
 pub mod Stands
 pub mod Undo
 pub mod View
+pub mod Walk
 pub mod Written

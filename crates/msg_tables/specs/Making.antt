@@ -1,5 +1,5 @@
 -- Changes of a list that were made, and the journal of what they wrote.
-use Rattle.std.specs.Prelude.{ℕ, ◌⊎◌, ◌≡◌, ◌≢◌, ◌<◌, ◌≤◌, ◌+◌, ◌*◌, ◌||◌, Bool, true, List, ◌++◌, Some, None, length, take}
+use Rattle.std.specs.Prelude.{ℕ, ◌⊎◌, ◌≡◌, ◌≢◌, ◌<◌, ◌+◌, ◌||◌, Bool, true, List, ◌++◌, Some, None, length, take}
 use Rattle.msg_names.specs.declared.value.ClassRef.{ClassRef}
 use Rattle.msg_tables.specs.declared.change.Change.{Change}
 use Rattle.msg_tables.specs.declared.change.ChangeRef.{ChangeRef}

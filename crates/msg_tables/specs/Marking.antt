@@ -1,5 +1,5 @@
 -- Marks on class references.
-use Rattle.std.specs.Prelude.{◌≡◌, ◌==◌, ◌<◌, ◌≤◌, ◌*◌, ◌&&◌, ◌||◌, ℕ, List, Bool, false, if◌then◌else◌, length, slice_index_or}
+use Rattle.std.specs.Prelude.{◌≡◌, ◌==◌, ◌<◌, ◌&&◌, ◌||◌, ℕ, List, Bool, false, if◌then◌else◌, length, slice_index_or}
 use Rattle.msg_names.specs.declared.value.ClassRef.{ClassRef}
 use Rattle.msg_names.specs.ClassRef.{slot_of}
 use Rattle.msg_tables.specs.declared.change.Change.{Change}
@@ -17,11 +17,6 @@ is_marked marks c = slice_index_or marks (slot_of c) false
 -- the contracts' view of marks: for each class reference, at its slot, whether it is marked
 abbrev pub marks_of : Inside → List Bool
 marks_of m = m.marked.items
-
--- the invariant of marks
-pub record AreSoundMarks (m : Inside) : Type 0 where
-  -- there is room for the classes below one
-  pub room : length m.marked.items ≤ 2 * m.below.room
 
 -- the class reference belongs to this class: it is the class, the metaclass, or either, as given
 abbrev pub is_of : ℕ → Bool → Bool → ClassRef → Bool

@@ -2,11 +2,11 @@
 use Rattle.std.specs.Prelude.{◌≡◌, ◌<◌, ◌≤◌, ◌==◌, ℕ, suc, slice_set, List, [], ◌∷◌, Option, Some, None, IfSome, Bool, true, false, if◌then◌else◌, length, nat_lt, slice_index_or}
 use Rattle.std.specs.List.{list_any}
 use Rattle.msg_tables.specs.declared.limits.TheConstants.{MAX_CLASSES}
-use Rattle.msg_tables.specs.declared.preorder.Preorder.{Preorder}
 use Rattle.msg_tables.specs.declared.presence.Presence.{Presence}
 use Rattle.msg_tables.specs.After.{of_class}
 use Rattle.msg_tables.specs.Chain.{is_present, descends, has_subclass}
 use Rattle.msg_tables.specs.Order.{present_count}
+use Rattle.msg_tables.specs.PreorderView.{PreorderView}
 
 -- an element of the list
 abbrev pub is_in : ℕ → List ℕ → Bool
@@ -90,27 +90,13 @@ pub record LeavesAfter (nexts : List (Option ℕ)) (k : ℕ) (superclass : Optio
 -- ---- what the program keeps of it
 
 -- there is room for a class, and its depth is less than the number of classes
-abbrev pub CanBeSuperclass : Preorder → ℕ → Type 0
-CanBeSuperclass p d = (d < length p.depths.items) × (d < length p.nexts.items) × (depth_at p.depths.items d < MAX_CLASSES)
-
--- a class is one of those in such an order, in which there is room for all classes with numbers
-abbrev pub CanBeGathered : Preorder → ℕ → ℕ → Type 0
-CanBeGathered p class room =
-    (supers : List (Option Presence)) × HavePreorder supers p.depths.items p.nexts.items × (is_present supers class ≡ true) × (length supers ≤ room)
-
--- whatever classes are in this order, a class that is present and those below it are these
-abbrev pub AreAllBelow : Preorder → ℕ → List ℕ → Type 0
-AreAllBelow p class found = (supers : List (Option Presence)) → HavePreorder supers p.depths.items p.nexts.items → is_present supers class ≡ true
-    → (k : ℕ) → is_in k found ≡ descends supers (of_class class) (of_class k)
-
--- a class is the first of these, each of which is among them once
-abbrev pub AreFirstAndOnce : ℕ → List ℕ → Type 0
-AreFirstAndOnce class found = AreOnce found × (rest : List ℕ) × (found ≡ class ∷ rest)
+abbrev pub CanBeSuperclass : PreorderView → ℕ → Type 0
+CanBeSuperclass p d = (d < length p.depths) × (d < length p.nexts) × (depth_at p.depths d < MAX_CLASSES)
 
 -- this is the order from before a class left that has no class below it; its superclass is given
-pub record CanBeForgotten (p : Preorder) (k : ℕ) (superclass : Option ℕ) (supers : List (Option Presence)) : Type 0 where
+pub record CanBeForgotten (p : PreorderView) (k : ℕ) (superclass : Option ℕ) (supers : List (Option Presence)) : Type 0 where
   pub was : List (Option Presence)
-  pub order : HavePreorder was p.depths.items p.nexts.items
+  pub order : HavePreorder was p.depths p.nexts
   pub here : is_present was k ≡ true
   pub above : IfSome superclass (λ d. is_present was d ≡ true)
   pub leaf : has_subclass was k ≡ false

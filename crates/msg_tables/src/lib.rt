@@ -24,8 +24,10 @@ mod origin;
 mod preorder;
 mod presence;
 mod reach;
+mod recent;
 mod tables;
 mod take_back;
+mod walk;
 
 pub use apply_all::Refused;
 pub use below::Below;
@@ -38,5 +40,7 @@ pub use limits::{Limits, MAX_CLASSES, MOST_CHANGES, MOST_SENDERS, MOST_WORDS};
 pub use marks::Marks;
 pub use methods::MethodList;
 pub use origin::{Category, HasOrigin, ListedClass, Origin};
+pub use recent::Recent;
 pub use tables::Tables;
 pub use take_back::Start;
+pub use walk::Walk;

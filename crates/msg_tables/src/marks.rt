@@ -13,12 +13,9 @@ use std::alloc::{AllocError, Global};
 use std::marker::Model;
 
 /// A mark for each class reference of an image.
-///
-/// The room for the search of descendants is made with the marks, so that none is taken later.
 #[derive(Drop)]
 pub struct Marks {
     pub(crate) marked: Vec<bool>,
-    pub(crate) below: Below,
 }
 
 impl Model for Marks {
@@ -26,11 +23,9 @@ impl Model for Marks {
 
     ghost Value = { List Bool };
 
-    ghost use Rattle.msg_tables.specs.Marking.{marks_of, AreSoundMarks};
+    ghost use Rattle.msg_tables.specs.Marking.{marks_of};
 
     ghost view = { marks_of };
-
-    ghost invariant = { AreSoundMarks };
 }
 
 impl Marks {
@@ -79,13 +74,15 @@ pub(crate) fn mark_made(marked: &mut [bool], class: u32)
 }
 
 // Marks class references in addition to those that are marked.
-fn mark_each(marked: &mut [bool], below: &Below)
-    requires { (k : ℕ) → is_in k below.now.classes ≡ true → 2 * k + 1 < length marked.old }
-    ensures marks { MarksThose (covers below.now) marked.old marked.new }
+fn mark_each(marked: &mut [bool], below: Below<'_>)
+    requires { (k : ℕ) → is_in k below.classes ≡ true → 2 * k + 1 < length marked.old }
+    ensures marks { MarksThose (covers below.entry) marked.old marked.new }
     ensures length { length marked.new ≡ length marked.old }
 {
+    let own = below.has_classes();
+    let meta = below.has_metaclasses();
     for class in below.classes() {
-        mark_class(marked, *class, below.has_classes(), below.has_metaclasses());
+        mark_class(marked, class, own, meta);
     }
 }
 
@@ -96,21 +93,17 @@ impl Tables {
     {
         Ok(Marks {
             marked: vec![in alloc; false; self.lists.len()]?,
-            below: self.room_below(alloc)?,
         })
     }
 
     // Marks a class reference and all below it, in addition to those that are marked.
-    pub(crate) fn mark_below(&self, class: ClassRef, marked: &mut [bool], below: &mut Below)
+    pub(crate) fn mark_below(&self, class: ClassRef, marked: &mut [bool])
         requires class { class.class < length self.now.supers }
         requires marks { length marked.old ≡ 2 * length self.now.supers }
-        requires room { length self.now.supers ≤ below.old.room }
         ensures marks { MarksDescendants self.now class marked.old marked.new }
         ensures length { length marked.new ≡ length marked.old }
-        ensures room { below.old.room ≤ below.new.room }
     {
-        self.below(class, below);
-        mark_each(marked, below);
+        mark_each(marked, self.below(class));
     }
 
     /// Marks a class reference and all below it, in addition to those that are marked.
@@ -123,6 +116,6 @@ impl Tables {
         ensures marks { MarksDescendants self.now class marks.old marks.new }
         ensures room { length marks.new ≡ length marks.old }
     {
-        self.mark_below(class, &mut marks.marked, &mut marks.below);
+        self.mark_below(class, &mut marks.marked);
     }
 }

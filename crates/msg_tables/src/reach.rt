@@ -1,68 +1,63 @@
 //! What a list of changes would affect.
 
-ghost use Rattle.std.specs.Prelude.{◌≡◌, ◌<◌, ◌≤◌, ◌*◌, [], ◌∷◌, All, IfErr, IfSome, OnOk, length};
+ghost use Rattle.std.specs.Prelude.{◌≡◌, ◌<◌, ◌≤◌, ◌*◌, [], ◌∷◌, All, IfErr, OnOk, length};
+ghost use Rattle.msg_names.specs.declared.value.ClassRef.{ClassRef};
 ghost use Rattle.msg_tables.specs.Journal.{NamesListed};
 ghost use Rattle.msg_tables.specs.Log.{Log};
 ghost use Rattle.msg_tables.specs.Making.{AreMadeBefore, IsMarkedBelow, IsRefusedUnlessMemory, LacksMemory};
 ghost use Rattle.msg_tables.specs.Making.{MarksTold, ReachesAll, ReachesBefore, RefusesNone, WantsMemory};
+ghost use Rattle.msg_tables.specs.Recent.{HasPlace};
 ghost use Rattle.msg_rows.specs.RowList.{HaveGrown};
 ghost use Rattle.msg_tables.specs.Stands.{StandsAt};
 ghost use Rattle.msg_tables.specs.View.{IsKept};
 
 use crate::apply_all::Refused;
-use crate::below::Below;
 use crate::change_list::ChangeList;
 use crate::entry::{Entry, Written};
 use crate::marks::mark_made;
+use crate::recent::Recent;
 use crate::tables::Tables;
-use msg_names::ClassRef;
 
 impl Tables {
     // Marks what an entry affects: a class that was made or disposed of, or the class reference
-    // where rows were written and all below it. It skips the latter if they were marked last.
-    // Returns what is then marked last.
-    fn mark_entry(
-        &self,
-        entry: Entry,
-        last: Option<ClassRef>,
-        marked: &mut [bool],
-        below: &mut Below,
-    ) -> Option<ClassRef>
+    // where rows were written and all below it.
+    fn mark_entry(&self, entry: Entry, marked: &mut [bool])
         requires listed { NamesListed (length self.now.supers) entry }
-        requires last { IfSome last (IsMarkedBelow self.now marked.old) }
         requires marks { length marked.old ≡ 2 * length self.now.supers }
-        requires room { length self.now.supers ≤ below.old.room }
         ensures marks { MarksTold self.now (entry ∷ []) marked.old marked.new }
-        ensures last { IfSome result (IsMarkedBelow self.now marked.new) }
         ensures length { length marked.new ≡ length marked.old }
-        ensures room { below.old.room ≤ below.new.room }
     {
         if let Entry::Made { class } | Entry::Disposed { class, .. } = entry {
             mark_made(marked, class);
-            return last;
+        } else if let Some(place) = entry.place() {
+            self.mark_below(place, marked);
         }
-        let Some(place) = entry.place() else {
-            return last;
-        };
-        if last != Some(place) {
-            self.mark_below(place, marked, below);
-        }
-        Some(place)
     }
 
-    // Marks what entries affect. If several entries at one place follow one another, the classes
-    // below it are visited only for the first.
-    fn mark_written(&self, entries: &[Entry], marked: &mut [bool], below: &mut Below)
+    // Marks what an entry affects, unless what is below its place was marked lately.
+    fn mark_once(&self, entry: Entry, recent: &mut Recent, marked: &mut [bool])
+        requires listed { NamesListed (length self.now.supers) entry }
+        requires recent { (c : ClassRef) → HasPlace recent.old c → IsMarkedBelow self.now marked.old c }
+        requires marks { length marked.old ≡ 2 * length self.now.supers }
+        ensures marks { MarksTold self.now (entry ∷ []) marked.old marked.new }
+        ensures recent { (c : ClassRef) → HasPlace recent.new c → IsMarkedBelow self.now marked.new c }
+        ensures length { length marked.new ≡ length marked.old }
+    {
+        if !recent.had(entry) {
+            self.mark_entry(entry, marked);
+        }
+    }
+
+    // Marks what entries affect.
+    fn mark_written(&self, entries: &[Entry], marked: &mut [bool])
         requires listed { All (NamesListed (length self.now.supers)) entries.now }
         requires marks { length marked.old ≡ 2 * length self.now.supers }
-        requires room { length self.now.supers ≤ below.old.room }
         ensures marks { MarksTold self.now entries.now marked.old marked.new }
         ensures length { length marked.new ≡ length marked.old }
-        ensures room { below.old.room ≤ below.new.room }
     {
-        let mut last = None;
+        let mut recent = Recent::none();
         for entry in entries {
-            last = self.mark_entry(*entry, last, marked, below);
+            self.mark_once(*entry, &mut recent, marked);
         }
     }
 
@@ -73,18 +68,16 @@ impl Tables {
     ///
     /// The changes are made and taken back, and what they write is noted in `written`;
     /// [`apply_all`](Tables::apply_all) says what that costs. The classes that are marked are also
-    /// visited, once for each place at which the changes write, if the changes of a place follow
-    /// one another.
+    /// visited, mostly once for each place at which the changes write: [`Recent`] says for how many
+    /// places.
     pub fn reach_all<L: ChangeList>(
         &mut self,
         changes: &L,
         written: &mut Written,
         marked: &mut [bool],
-        below: &mut Below,
     ) -> Result<(), Refused>
         requires stands { (h : Log) × StandsAt self.old h }
         requires marks { length marked.old ≡ 2 * length self.old.supers }
-        requires below { length self.old.supers ≤ below.old.room }
         ensures same { IsKept self.old self.new }
         ensures grown { HaveGrown self.old.rooms self.new.rooms }
         ensures ok { OnOk result (RefusesNone (L.changes changes.now) self.old) }
@@ -95,7 +88,6 @@ impl Tables {
         ensures within { IfErr result (λ r. r.place < length (L.changes changes.now)) }
         ensures kept { IfErr result (ReachesBefore (L.changes changes.now) self.old marked.old marked.new) }
         ensures length { length marked.new ≡ length marked.old }
-        ensures below { below.old.room ≤ below.new.room }
         ensures wanting { IfErr result (WantsMemory (L.changes changes.now) written.old.room self.old) }
         ensures room { written.old.room ≤ written.new.room }
         ensures forgotten { written.new.entries ≡ [] }
@@ -104,7 +96,7 @@ impl Tables {
         let entries = &mut written.entries;
         entries.clear();
         let outcome = self.apply_each(changes, entries);
-        self.mark_written(entries, marked, below);
+        self.mark_written(entries, marked);
         self.take_back(start, entries);
         outcome
     }

@@ -58,11 +58,10 @@ fn asked(
     changes: &[Change],
 ) -> (Result<(), Refused>, usize) {
     let mut tables = opened(rt, alloc, image);
-    let mut below = tables.room_below(alloc).expect(rt, "memory");
     let places = 2 * image.class_count() as usize;
     let mut marked = vec![in alloc; false; places].expect(rt, "memory");
     let mut written = Written::none(alloc);
-    let answer = tables.reach_all(&changes, &mut written, &mut marked, &mut below);
+    let answer = tables.reach_all(&changes, &mut written, &mut marked);
     (answer, marked.iter().filter(|mark| **mark).count())
 }
 

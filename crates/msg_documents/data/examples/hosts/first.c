@@ -12,16 +12,16 @@ static int area(int side) { return side * side; }
 static const method methods[] = {forward, four, area};  /* my implementations, from 1 */
 
 static msg_runtime runtime = MSG_RUNTIME_INIT;
-/* held in each call that takes the runtime */
+/* held to change or to ask; msg_find takes it after a miss */
 static pthread_mutex_t lock = PTHREAD_MUTEX_INITIALIZER;
-/* one for each thread; 128 KiB, so off the stack; zero bytes are closed */
+/* one for each thread; 128 KiB, so off the stack; all zero bytes is a closed handle */
 static _Alignas(64) msg_sender mine, other;
 
 static void must(uint32_t fault) { if (fault) exit(1); }
 
 static int send(msg_sender *sender, uint32_t selector) /* to a square of side 3 */
 {
-    uint32_t imp; /* by each change that has returned */
+    uint32_t imp; /* reflects every change that has returned */
     must(msg_find(&runtime, &lock, sender, SQUARE, false, selector, &imp));
     return methods[imp](3);
 }

@@ -1,9 +1,8 @@
-use Rattle.std.proofs.Common.{rules, ◌≡◌, ◌<◌, [], ◌∷◌, Bool, true, false, Some, length, refl, ⊎_elim, ap, subst, sym, ◌∙◌, arith}
-use Rattle.std.specs.Prelude.{IfSome, if◌then◌else◌}
+use Rattle.std.proofs.Common.{◌≡◌, ◌<◌, [], ◌∷◌, Bool, true, false, length, refl, ⊎_elim, ap, subst, sym, ◌∙◌, arith}
+use Rattle.std.specs.Prelude.{if◌then◌else◌}
 use Rattle.msg_tables.specs.Journal.{NamesListed, classes_of, places_of}
 use Rattle.msg_names.proofs.TestLemmas.{same_number}
-use Rattle.msg_tables.proofs.EntryLemmas.{told-class, told-place}
-use Rattle.msg_runtime.specs.Flushed.{IsFlushedBelow}
+use Rattle.msg_tables.proofs.EntryLemmas.{told-class}
 use Rattle.msg_runtime.proofs.flushing_all.flush_entry.Goals as goal
 
 either-true : (b : Bool) → (if b then true else true) ≡ true
@@ -22,9 +21,3 @@ returns-in-Made-clause-flushed c = λ h stands d told.
     let classes : classes_of (c.args.entry ∷ []) ≡ k ∷ [] = ⊎_elim (λ is. ap (λ e. classes_of (e ∷ [])) is) (λ (s, at, is). ap (λ e. classes_of (e ∷ [])) is) c.in-Made.is in
     let places : places_of (c.args.entry ∷ []) ≡ [] = ⊎_elim (λ is. ap (λ e. places_of (e ∷ [])) is) (λ (s, at, is). ap (λ e. places_of (e ∷ [])) is) c.in-Made.is in
     c.flush_class.ensures.flushed d (same_number d.class k (sym (told-class h c.args.entry k d classes places) ∙ told)) (either-true d.meta)
-
-pub returns-else-ne-clause-flushed : goal.returns-else-ne-clause-flushed
-returns-else-ne-clause-flushed c = λ h stands d told.
-    let same : c.args.last ≡ Some c.in-Some.place = search rules in
-    let here : IsFlushedBelow c.args.arena.now c.args.tables.now c.args.keeper.now c.in-Some.place = subst (λ o. IfSome o (IsFlushedBelow c.args.arena.now c.args.tables.now c.args.keeper.now)) same c.requires.last in
-    here h stands d (sym (told-place h c.args.entry c.in-Some.place d (sym c.place.ensures.place ∙ c.in-Some.is)) ∙ told)

@@ -1,6 +1,7 @@
-use Rattle.std.specs.Prelude.{IfSome}
-use Rattle.std.proofs.Common.{◌≡◌, ◌≤◌, length, take}
+use Rattle.std.proofs.Common.{◌≡◌, take}
+use Rattle.msg_names.specs.declared.value.ClassRef.{ClassRef}
 use Rattle.msg_tables.specs.Making.{is_told}
+use Rattle.msg_tables.specs.Recent.{HasPlace}
 use Rattle.msg_runtime.specs.Parts.{IsKeeperOf, keeper_history, keeper_seats}
 use Rattle.msg_runtime.specs.Flushed.{AreFlushed, IsFlushedBelow}
 use Rattle.msg_runtime.proofs.flushing_all.flush_written.Given as goal
@@ -11,7 +12,6 @@ invariant-loop-entry l = record {
   arena : IsKeeperOf l.arena l.keeper;
   history : keeper_history l.keeper ≡ keeper_history l.fn.keeper;
   seats : keeper_seats l.keeper ≡ keeper_seats l.fn.keeper;
-  room : length l.tables.supers ≤ l.below.room;
-  last : IfSome l.last (IsFlushedBelow l.arena l.tables l.keeper);
-  flushed : AreFlushed l.arena l.tables l.keeper (λ h. is_told h (take l.entry-index l.entry-items));
+  recent : (c : ClassRef) → HasPlace l.recent c → IsFlushedBelow l.arena l.tables l.keeper c;
+  flushed : AreFlushed l.arena l.tables l.keeper (λ h. is_told h (take l.entry-index l.entries));
 }

@@ -1,4 +1,4 @@
-use Rattle.std.proofs.Common.{rules, ◌≡◌, ◌≤◌, ◌-◌, length, Some, slice_get, sym, ap, ◌∙◌, arith}
+use Rattle.std.proofs.Common.{arith}
 use Rattle.msg_tables.proofs.DisposedLemmas.{stands-at}
 use Rattle.msg_tables.proofs.apply.place_in.Goals as goal
 

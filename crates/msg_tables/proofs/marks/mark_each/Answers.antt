@@ -1,63 +1,56 @@
-use Rattle.std.proofs.Common.{◌≡◌, ◌<◌, ◌+◌, ◌*◌, [], ◌∷◌, take, length, Bool, true, false, cond, refl, sym, ap, ◌∙◌, arith}
-use Rattle.std.specs.Prelude.{◌||◌, ◌&&◌, ◌==◌, slice_index_or}
-use Rattle.std.proofs.lemmas.List.Folds.{list_any-append}
-use Rattle.std.proofs.Math.Seq.{take-length}
+use Rattle.std.proofs.Common.{◌≡◌, Bool, true, false, cond, refl, sym, ap, ◌∙◌, arith}
+use Rattle.std.specs.Prelude.{◌||◌, ◌&&◌, ◌==◌}
 use Rattle.msg_tables.specs.Marking.{is_marked}
 use Rattle.msg_tables.specs.Preorder.{is_in}
-use Rattle.msg_tables.proofs.TakeLemmas.{take-next}
-use Rattle.msg_tables.proofs.PreorderLemmas.{in-order, element-at}
+use Rattle.msg_tables.proofs.PreorderLemmas.{first-in, later-in}
 use Rattle.msg_tables.proofs.marks.mark_each.Goals as goal
 
-none-more : (a k : Bool) → a ≡ (a || (k && false))
-none-more true k = refl
-none-more false true = refl
-none-more false false = refl
+none-left : (a k : Bool) → (a || (k && false)) ≡ a
+none-left true k = refl
+none-left false true = refl
+none-left false false = refl
 
-one-more : (a k t q : Bool) → ((a || (k && t)) || (k && q)) ≡ (a || (k && (t || (q || false))))
+one-more : (a k t q : Bool) → ((a || (k && t)) || (k && q)) ≡ (a || (k && (t || q)))
 one-more true k t q = refl
 one-more false false t q = refl
 one-more false true true q = refl
-one-more false true false true = refl
-one-more false true false false = refl
+one-more false true false q = refl
 
 pub loop-class-init : goal.loop-class-init
-loop-class-init c = record {
-  marks = λ d. none-more (is_marked c.args.marked.now d) (cond d.meta c.args.below.now.meta c.args.below.now.own);
-  length = refl;
-}
+loop-class-init c =
+    let same = c.into_iter-class-iterator.ensures.into_iter_gives ∙ c.classes-class-items.ensures in
+    record {
+      marks = λ d. ap (λ ks. is_marked c.args.marked.now d || (cond d.meta c.args.below.meta c.args.below.own && is_in d.class ks)) same;
+      left = λ k e. ap (is_in k) (sym same) ∙ e;
+      length = refl;
+    }
 
 pub mark_class-requires : goal.mark_class-requires
 mark_class-requires c =
-    let items = c.classes-class-items.result.now in
-    let k = slice_index_or items c.loop-class.class-index 0 in
-    let there : is_in k items ≡ true = in-order items c.loop-class.class-index k (element-at items c.loop-class.class-index c.loop-class-test.true) in
-    let room : 2 * k + 1 < length c.args.marked.now = c.requires k (ap (is_in k) (sym c.classes-class-items.ensures) ∙ there) in
+    let k = c.in-Some.class in
+    let room = c.requires k (c.loop-class.invariant.left k (ap (is_in k) c.in-Some.ensures.steps ∙ first-in k c.next.new.self)) in
     omega (arith, room, c.loop-class.invariant.length)
 
 pub loop-class-preserved : goal.loop-class-preserved
 loop-class-preserved c = record {
   marks = λ d.
-      let items = c.classes-class-items.result.now in
-      let i = c.loop-class.class-index in
-      let k = slice_index_or items i 0 in
-      let kind = cond d.meta c.args.below.now.meta c.args.below.now.own in
-      let own : c.has_classes.result ≡ c.args.below.now.own = c.has_classes.ensures in
-      let meta : c.has_metaclasses.result ≡ c.args.below.now.meta = c.has_metaclasses.ensures in
-      let next : is_in d.class (take (i + 1) items) ≡ (is_in d.class (take i items) || ((k == d.class) || false)) =
-      ap (is_in d.class) (take-next items i k (element-at items i c.loop-class-test.true)) ∙ list_any-append (λ x. x == d.class) (take i items) (k ∷ []) in
-      c.mark_class.ensures.marks d
-      ∙ ap (λ b. is_marked c.loop-class.marked d || (cond d.meta b c.has_classes.result && (k == d.class))) meta
-      ∙ ap (λ b. is_marked c.loop-class.marked d || (cond d.meta c.args.below.now.meta b && (k == d.class))) own
-      ∙ ap (λ b. b || (kind && (k == d.class))) (c.loop-class.invariant.marks d)
-      ∙ one-more (is_marked c.args.marked.now d) kind (is_in d.class (take i items)) (k == d.class)
-      ∙ sym (ap (λ b. is_marked c.args.marked.now d || (kind && b)) next);
+      let k = c.in-Some.class in
+      let rest = is_in d.class c.next.new.self in
+      let kind = cond d.meta c.args.below.meta c.args.below.own in
+      ap (λ b. b || (kind && rest))
+      (c.mark_class.ensures.marks d
+      ∙ ap (λ b. is_marked c.loop-class.marked d || (cond d.meta b c.has_classes-own.result && (k == d.class))) c.has_metaclasses-meta.ensures
+      ∙ ap (λ b. is_marked c.loop-class.marked d || (cond d.meta c.args.below.meta b && (k == d.class))) c.has_classes-own.ensures)
+      ∙ one-more (is_marked c.loop-class.marked d) kind (k == d.class) rest
+      ∙ sym (ap (λ ks. is_marked c.loop-class.marked d || (kind && is_in d.class ks)) c.in-Some.ensures.steps)
+      ∙ c.loop-class.invariant.marks d;
+  left = λ k e. c.loop-class.invariant.left k (ap (is_in k) c.in-Some.ensures.steps ∙ later-in k c.in-Some.class c.next.new.self e);
   length = c.mark_class.ensures.length ∙ c.loop-class.invariant.length;
 }
 
 pub returns-clause-marks : goal.returns-clause-marks
 returns-clause-marks c = λ d.
-    let items = c.classes-class-items.result.now in
-    let end : c.loop-class.class-index ≡ length items = omega (arith, c.loop-class-test.false, c.loop-class.auto.class-index-end) in
-    let whole : take c.loop-class.class-index items ≡ c.args.below.now.classes = ap (λ n. take n items) end ∙ take-length items ∙ c.classes-class-items.ensures in
-    c.loop-class.invariant.marks d
-    ∙ ap (λ ks. is_marked c.args.marked.now d || (cond d.meta c.args.below.now.meta c.args.below.now.own && is_in d.class ks)) whole
+    let kind = cond d.meta c.args.below.meta c.args.below.own in
+    sym (none-left (is_marked c.loop-class.marked d) kind)
+    ∙ sym (ap (λ ks. is_marked c.loop-class.marked d || (kind && is_in d.class ks)) c.in-None.ensures.steps.0)
+    ∙ c.loop-class.invariant.marks d

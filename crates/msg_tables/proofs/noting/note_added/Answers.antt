@@ -1,10 +1,8 @@
-use Rattle.std.proofs.Common.{◌≡◌, [], ◌∷◌, ◌++◌, length, length-append, sym, ap, ◌∙◌, arith}
+use Rattle.std.proofs.Common.{◌≡◌, [], ◌∷◌, ◌++◌, length, length-append, ap, ◌∙◌, arith}
 use Rattle.std.specs.Prelude.{reverse}
 use Rattle.std.specs.Slice.Iter.{iter_rest}
-use Rattle.msg_names.specs.declared.value.Selector.{Selector}
 use Rattle.msg_tables.specs.Journal.{added_all}
 use Rattle.msg_rows.specs.Methods.{method_numbers}
-use Rattle.msg_tables.specs.declared.entry.Entry.{Entry}
 use Rattle.msg_tables.specs.declared.entry.Entry.TheVariants.{Added}
 use Rattle.msg_tables.proofs.UndoJournalLemmas.{noted-next}
 use Rattle.msg_tables.proofs.noting.note_added.Goals as goal

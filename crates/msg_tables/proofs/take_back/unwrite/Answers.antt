@@ -1,4 +1,4 @@
-use Rattle.std.proofs.Common.{◌≡◌, ap, sym, ◌∙◌, subst, arith, length}
+use Rattle.std.proofs.Common.{subst, arith}
 use Rattle.std.specs.Vec.{vec_capacity}
 use Rattle.msg_names.specs.ClassRef.{slot_of}
 use Rattle.msg_tables.specs.Journal.{CanGoBack}

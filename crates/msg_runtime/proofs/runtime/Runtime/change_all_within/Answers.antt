@@ -1,5 +1,5 @@
 -- the tables are at the longer history, and what the list affects is flushed
-use Rattle.std.proofs.Common.{rules, ◌≡◌, ◌≤◌, ◌||◌, [], ◌∷◌, length, length-append, true, false, Bool, ap, sym, subst, refl, ◌∙◌, arith}
+use Rattle.std.proofs.Common.{rules, ◌≡◌, ◌||◌, [], ◌∷◌, length, length-append, true, false, Bool, ap, sym, subst, refl, ◌∙◌, arith}
 use Rattle.msg_tables.specs.History.{History, and_then, log}
 use Rattle.msg_tables.specs.Origin.{class_total}
 use Rattle.msg_tables.specs.Several.{refusal_of_all}
@@ -32,13 +32,11 @@ invariant_of-self-2 g c =
     let longer : keeper_history c.commit_all.new.self ≡ and_then h xs = ap (λ (k : KeeperView). k.history) c.commit_all.ensures.committed ∙ ap (λ (k : History). and_then k xs) same in
     let given = ap (λ (k : KeeperView). k.given) c.commit_all.ensures.committed ∙ ap (λ q. q.0) c.flush_changed.ensures.seats in
     let keeper : IsKeeperOf c.self.inside.arena.value c.commit_all.new.self = search rules in
-    let room : c.self.inside.classes ≤ c.flush_changed.new.below.room = search rules in
     record {
       keeper = keeper;
       tables = subst (λ k. StandsAt c.apply_all.new.self k) (sym (ap log longer ∙ log-all h xs)) (c.in_default.ensures.ok (log h) was.tables).1;
       origin = ap (λ (k : History). k.origin) longer ∙ was.origin;
       classes = was.classes ∙ ap (λ (k : History). class_total k.origin) (sym longer);
-      room = room;
       rests = rests_on (keeper_view c.self.inside.keeper) (keeper_view c.commit_all.new.self) c.self.inside.rested.items
           given
           (ap (λ (k : KeeperView). k.since) c.commit_all.ensures.committed ∙ ap (λ q. q.1) c.flush_changed.ensures.seats)

@@ -14,7 +14,6 @@ invariant_of-result-2 c =
       tables = search rules;
       origin = search rules;
       classes = search rules;
-      room = search rules;
       full = λ n below. absurd (omega (arith, below));
       rests = rests_first (keeper_view c.args.keeper) c.senders.result c.in_ok-rested.rested.items zeros given;
     }

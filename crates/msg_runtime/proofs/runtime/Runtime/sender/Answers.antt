@@ -40,7 +40,6 @@ loop-number-preserved c =
         tables = subst (λ (h : History). StandsAt c.loop-number.self-inside.tables (log h)) (sym history) inv.together.tables;
         origin = ap (λ (h : History). h.origin) history ∙ inv.together.origin;
         classes = inv.together.classes ∙ ap (λ (h : History). class_total h.origin) (sym history);
-        room = inv.together.room;
         rests = subst (λ k. AreRested k c.loop-number.self-inside.rested.items) (sym e.view) inv.together.rests;
         full = subst (λ k. AreOut c.loop-number.self-inside.full k) (sym e.view) inv.together.full;
       };

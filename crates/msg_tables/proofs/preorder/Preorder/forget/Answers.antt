@@ -9,10 +9,10 @@ pub returns-else-not-leave : goal.returns-else-not-leave
 returns-else-not-leave c =
     let w = c.requires.was in
     let l = c.leave.ensures.left c.if-not-leave.false in
-    let depths = c.args.self.now.depths.items in
-    let nexts = c.args.self.now.nexts.items in
+    let depths = c.args.self.now.depths in
+    let nexts = c.args.self.now.nexts in
     let above = subst (λ o. IfSome o (λ d. is_present w.was d ≡ true)) l.is w.above in
     let left = preorder-left w.was depths nexts w.order c.args.class l.above w.here above w.leaf l.first in
     let without = slice_set w.was c.args.class None in
-    subst (λ ss. HavePreorder ss c.leave.new.self.depths.items c.leave.new.self.nexts.items) (sym w.is)
-    (subst (λ ds. HavePreorder without ds c.leave.new.self.nexts.items) (sym c.leave.ensures.depths) (subst (HavePreorder without depths) (sym l.rest) left))
+    subst (λ ss. HavePreorder ss c.leave.new.self.depths c.leave.new.self.nexts) (sym w.is)
+    (subst (λ ds. HavePreorder without ds c.leave.new.self.nexts) (sym c.leave.ensures.depths) (subst (HavePreorder without depths) (sym l.rest) left))

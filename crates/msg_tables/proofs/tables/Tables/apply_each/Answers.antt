@@ -1,5 +1,4 @@
 use Rattle.std.proofs.Common.{take, length, ◌+◌, ◌≡◌, Some, Err, ap, sym, subst, ◌∙◌, arith}
-use Rattle.std.proofs.lemmas.List.{length-take-le}
 use Rattle.msg_tables.specs.ChangeList.{change_of}
 use Rattle.std.specs.Vec.{vec_capacity}
 use Rattle.msg_tables.specs.Log.{table}

@@ -1,4 +1,4 @@
-use Rattle.std.proofs.Common.{[], ◌∷◌, ◌++◌, append_assoc, length, refl, sym, ap, ap₂, ◌∙◌}
+use Rattle.std.proofs.Common.{[], ◌++◌, append_assoc, length, sym, ap, ap₂, ◌∙◌}
 use Rattle.std.specs.Prelude.{reverse}
 use Rattle.msg_tables.specs.After.{of_class, of_meta}
 use Rattle.msg_tables.specs.Affected.{if_any}

@@ -44,40 +44,40 @@ without-itself k j rest d out e = at (k == j) refl e
     at true same e = sym (ap (λ z. is_in z rest) (same_number k j same)) ∙ out ∙ sym (and-none d) ∙ sym (ap (λ b. d && not b) same)
     at false other e = e ∙ sym (and-all d) ∙ sym (ap (λ b. d && not b) other)
 
-pub returns-in-Some-clause-under : goal.returns-in-Some-clause-under
-returns-in-Some-clause-under c = λ h stands.
+pub returns-clause-under : goal.returns-clause-under
+returns-clause-under c = λ h stands.
     let supers = c.self.inside.supers.items in
     let inside = rw (← c.self.view_is) at c.requires.class in
     let here : presence_of supers c.args.class.class ≡ Some c.in-Some.presence = sym (read-presence supers c.args.class.class c.index.result.now inside c.index.ensures) ∙ c.in-Some.is in
     let same = ap (λ (t : TablesView). t.supers) c.self.view_is ∙ stands.supers in
-    let (once, rest, first) = c.gather.ensures.once in
-    let dropped : drop 1 c.gather.new.classes.items ≡ rest = ap (drop 1) first in
+    let (once, rest, first) = c.from.ensures.once in
+    let dropped : drop 1 c.from.result ≡ rest = ap (drop 1) first in
     let alone = subst AreOnce first once in
     record {
       below = λ j.
           ap (is_in j) dropped
           ∙ without-itself c.args.class.class j rest (descends supers (of_class c.args.class.class) (of_class j)) alone.0
-          (sym (ap (is_in j) first) ∙ c.gather.ensures.below supers c.self.invariant.preorder (ap is_some here) j)
+          (sym (ap (is_in j) first) ∙ c.from.ensures.below supers c.self.invariant.preorder (ap is_some here) j)
           ∙ ap (λ s. descends s (of_class c.args.class.class) (of_class j) && not (c.args.class.class == j)) same;
       once = subst AreOnce (sym dropped) alone.1;
     }
 
-pub returns-in-Some-clause-below : goal.returns-in-Some-clause-below
-returns-in-Some-clause-below c = λ h stands d.
+pub returns-clause-below : goal.returns-clause-below
+returns-clause-below c = λ h stands d.
     let supers = c.self.inside.supers.items in
     let inside = rw (← c.self.view_is) at c.requires.class in
     let here : presence_of supers c.args.class.class ≡ Some c.in-Some.presence = sym (read-presence supers c.args.class.class c.index.result.now inside c.index.ensures) ∙ c.in-Some.is in
     let root : is_root supers c.args.class.class ≡ c.is_none.result = ap (λ o. option_map_or (λ (p : Presence). is_none p.superclass) o true) here ∙ sym (none-of c.in-Some.presence.superclass c.is_none.result c.is_none.ensures) in
     let same = ap (λ (t : TablesView). t.supers) c.self.view_is ∙ stands.supers in
-    below-of supers c.self.inside.order.items c.self.invariant.order c.args.class c.is_none.result c.gather.new.classes.items root (c.gather.ensures.below supers c.self.invariant.preorder (ap is_some here)) d
+    below-of supers c.self.inside.order.items c.self.invariant.order c.args.class c.is_none.result c.from.result root (c.from.ensures.below supers c.self.invariant.preorder (ap is_some here)) d
     ∙ descends-at h supers c.args.class d same
 
-pub returns-in-Some-clause-classes : goal.returns-in-Some-clause-classes
-returns-in-Some-clause-classes c = λ k e.
+pub returns-clause-classes : goal.returns-clause-classes
+returns-clause-classes c = λ k e.
     let supers = c.self.inside.supers.items in
     let inside = rw (← c.self.view_is) at c.requires.class in
     let here : presence_of supers c.args.class.class ≡ Some c.in-Some.presence = sym (read-presence supers c.args.class.class c.index.result.now inside c.index.ensures) ∙ c.in-Some.is in
-    let down : descends supers (of_class c.args.class.class) (of_class k) ≡ true = sym (c.gather.ensures.below supers c.self.invariant.preorder (ap is_some here) k) ∙ e in
+    let down : descends supers (of_class c.args.class.class) (of_class k) ≡ true = sym (c.from.ensures.below supers c.self.invariant.preorder (ap is_some here) k) ∙ e in
     rw (← c.self.view_is) (present-inside supers k (present-below supers (of_class c.args.class.class) (of_class k) down))
 
 pub returns-in_default-clause-below : goal.returns-in_default-clause-below
@@ -86,7 +86,7 @@ returns-in_default-clause-below c = λ h stands d.
     let inside = rw (← c.self.view_is) at c.requires.class in
     let gone : is_present supers c.args.class.class ≡ false = ap is_some (sym (read-presence supers c.args.class.class c.index.result.now inside c.index.ensures) ∙ c.in_default.is) in
     let same = ap (λ (t : TablesView). t.supers) c.self.view_is ∙ stands.supers in
-    ap (λ ks. cond d.meta c.args.class.meta (not c.args.class.meta) && is_in d.class ks) c.clear.ensures.items ∙ and-none (cond d.meta c.args.class.meta (not c.args.class.meta))
+    ap (λ ks. cond d.meta c.args.class.meta (not c.args.class.meta) && is_in d.class ks) c.none.ensures ∙ and-none (cond d.meta c.args.class.meta (not c.args.class.meta))
     ∙ sym (nothing-below supers c.self.inside.order.items c.self.invariant.order c.args.class gone d) ∙ descends-at h supers c.args.class d same
 
 pub returns-in_default-clause-under : goal.returns-in_default-clause-under
@@ -97,9 +97,9 @@ returns-in_default-clause-under c = λ h stands.
     let same = ap (λ (t : TablesView). t.supers) c.self.view_is ∙ stands.supers in
     record {
       below = λ j.
-          ap (λ ks. is_in j (drop 1 ks)) c.clear.ensures.items
+          ap (λ ks. is_in j (drop 1 ks)) c.none.ensures
           ∙ sym (ap (λ b. b && not (c.args.class.class == j))
           (sym (ap (λ s. descends s (of_class c.args.class.class) (of_class j)) same)
           ∙ nothing-below supers c.self.inside.order.items c.self.invariant.order (of_class c.args.class.class) gone (of_class j)));
-      once = subst (λ ks. AreOnce (drop 1 ks)) (sym c.clear.ensures.items) tt;
+      once = subst (λ ks. AreOnce (drop 1 ks)) (sym c.none.ensures) tt;
     }

@@ -1,9 +1,7 @@
-use Rattle.std.proofs.Common.{◌≡◌, ◌<◌, ◌+◌, ℕ, List, [], ◌∷◌, Some, None, length, length-append, option_map, refl, sym, ap, ◌∙◌, subst, arith}
+use Rattle.std.proofs.Common.{[], ◌∷◌, length, length-append, refl, sym, ap, subst, arith}
 use Rattle.msg_names.specs.ClassRef.{slot_of}
 use Rattle.msg_names.specs.Number.{selector_number}
-use Rattle.msg_names.specs.declared.value.Selector.{Selector}
 use Rattle.msg_tables.specs.Journal.{TakesRows}
-use Rattle.msg_rows.specs.RowList.{last_row}
 use Rattle.msg_tables.specs.View.{TablesView, kept}
 use Rattle.msg_tables.proofs.DisposeLemmas.{ends-with, last-none, takes-next, takes-none}
 use Rattle.msg_tables.proofs.RewriteLemmas.{own-inside}

@@ -1,7 +1,7 @@
-use Rattle.std.proofs.Common.{◌∙◌, sym, refl, true, false}
+use Rattle.std.proofs.Common.{◌∙◌, sym, true, false}
 use Rattle.msg_names.specs.Number.{selector_number, imp_number}
 use Rattle.msg_tables.specs.Log.{table}
-use Rattle.msg_tables.proofs.CoverLemmas.{unfit-cover, fit-cover, places-cover, made-cover}
+use Rattle.msg_tables.proofs.CoverLemmas.{unfit-cover, fit-cover, places-cover}
 use Rattle.msg_tables.proofs.WayBackLemmas.{covering-rows, covering-supers}
 use Rattle.msg_tables.proofs.UndoJournalLemmas.{undo-cover}
 use Rattle.msg_tables.proofs.tables.Tables.judge_cover.Goals as goal

@@ -29,8 +29,8 @@ pub place-requires-clause-above : goal.place-requires-clause-above
 place-requires-clause-above c =
     let fits = rw (← c.self.view_is) at c.requires in
     let was = c.self.inside.supers.items in
-    let depths = c.self.inside.preorder.depths.items in
-    let nexts = c.self.inside.preorder.nexts.items in
+    let depths = c.self.inside.preorder.depths in
+    let nexts = c.self.inside.preorder.nexts in
     within depths nexts (length was) c.args.superclass c.self.invariant.few_classes
     (made-ready was c.self.inside.order.items c.self.invariant.order depths nexts c.args.class c.args.superclass fits.named.0 fits.named.1 fits.named.2 c.self.invariant.preorder)
 
@@ -47,9 +47,9 @@ invariant_of-self c =
       counted = c.self.invariant.counted;
       order = subst (λ o. IsOrder (slice_set was c.args.class (Some made)) o) (sym pushed) (made-order was order c.self.invariant.order c.args.class c.args.superclass fits.named.0 fits.named.1 fits.named.2);
       room = omega (arith, grown, c.self.invariant.room, c.push-pushed.ensures.capacity);
-      preorder = subst (λ ds. HavePreorder (slice_set was c.args.class (Some made)) ds c.place.new.self.nexts.items) (sym c.place.ensures.depths)
-          (subst (λ ns. HavePreorder (slice_set was c.args.class (Some made)) (depths_with c.self.inside.preorder.depths.items c.args.class c.args.superclass) ns) (sym c.place.ensures.nexts)
-          (made-preorder was order c.self.invariant.order c.self.inside.preorder.depths.items c.self.inside.preorder.nexts.items c.args.class c.args.superclass fits.named.0 fits.named.1 fits.named.2 c.self.invariant.preorder));
+      preorder = subst (λ ds. HavePreorder (slice_set was c.args.class (Some made)) ds c.place.new.self.nexts) (sym c.place.ensures.depths)
+          (subst (λ ns. HavePreorder (slice_set was c.args.class (Some made)) (depths_with c.self.inside.preorder.depths c.args.class c.args.superclass) ns) (sym c.place.ensures.nexts)
+          (made-preorder was order c.self.invariant.order c.self.inside.preorder.depths c.self.inside.preorder.nexts c.args.class c.args.superclass fits.named.0 fits.named.1 fits.named.2 c.self.invariant.preorder));
       lists = omega (arith, grown, c.self.invariant.lists);
       listed = c.self.invariant.listed;
       few_classes = omega (arith, grown, c.self.invariant.few_classes);

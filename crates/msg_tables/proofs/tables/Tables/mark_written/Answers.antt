@@ -1,4 +1,4 @@
-use Rattle.std.proofs.Common.{◌≡◌, length, take, refl, ap, subst, ◌∙◌, arith}
+use Rattle.std.proofs.Common.{◌≡◌, length, take, ap, subst, ◌∙◌, arith}
 use Rattle.std.proofs.Math.Seq.{take-length}
 use Rattle.msg_tables.specs.Making.{MarksTold}
 use Rattle.msg_tables.proofs.ReachLemmas.{marks-next}
@@ -6,11 +6,10 @@ use Rattle.msg_tables.proofs.tables.Tables.mark_written.Goals as goal
 
 pub loop-entry-preserved : goal.loop-entry-preserved
 loop-entry-preserved c = record {
-  marks = marks-next c.args.self.now c.args.entries.now c.loop-entry.entry-index c.entry-item.result c.args.marked.now c.loop-entry.marked c.mark_entry-last.new.marked c.loop-entry-test.true c.entry-item.is
-      c.loop-entry.invariant.marks c.mark_entry-last.ensures.marks;
-  last = c.mark_entry-last.ensures.last;
-  length = c.mark_entry-last.ensures.length ∙ c.loop-entry.invariant.length;
-  room = omega (arith, c.loop-entry.invariant.room, c.mark_entry-last.ensures.room);
+  marks = marks-next c.args.self.now c.args.entries.now c.loop-entry.entry-index c.entry-item.result c.args.marked.now c.loop-entry.marked c.mark_once.new.marked c.loop-entry-test.true c.entry-item.is
+      c.loop-entry.invariant.marks c.mark_once.ensures.marks;
+  recent = c.mark_once.ensures.recent;
+  length = c.mark_once.ensures.length ∙ c.loop-entry.invariant.length;
 }
 
 pub returns-clause-marks : goal.returns-clause-marks

@@ -1,6 +1,6 @@
-use Rattle.std.proofs.Common.{◌≡◌, [], ◌∷◌, refl, sym, ap, ◌∙◌, length, subst}
+use Rattle.std.proofs.Common.{[], ◌∷◌, sym, ap, ◌∙◌, length, subst}
 use Rattle.std.specs.Option.{option_map_or}
-use Rattle.msg_names.specs.Number.{selector_number, imp_number}
+use Rattle.msg_names.specs.Number.{selector_number}
 use Rattle.msg_tables.specs.Journal.{AllNameListed, classes_of, places_of, undo_journal}
 use Rattle.msg_tables.specs.Undo.{covering}
 use Rattle.msg_tables.proofs.NoteLemmas.{places-equal}

@@ -1,4 +1,4 @@
-use Rattle.std.proofs.Common.{[], ◌∷◌, ◌++◌, append_assoc, option_map, refl, sym, ap, ◌∙◌, arith}
+use Rattle.std.proofs.Common.{[], ◌∷◌, ◌++◌, append_assoc, option_map, refl, sym, ap, ◌∙◌}
 use Rattle.msg_names.specs.Number.{imp_number}
 use Rattle.msg_tables.specs.declared.entry.Entry.TheVariants.{Rewrote}
 use Rattle.msg_tables.proofs.UndoJournalLemmas.{undone-both}

@@ -1,4 +1,4 @@
-use Rattle.std.proofs.Common.{[], ◌∷◌, refl, arith}
+use Rattle.std.proofs.Common.{[], ◌∷◌, refl}
 use Rattle.msg_tables.specs.declared.entry.Entry.TheVariants.{Rewrote}
 use Rattle.msg_tables.proofs.UndoJournalLemmas.{undone-own}
 use Rattle.msg_tables.proofs.NoteLemmas.{places-equal}

@@ -1,4 +1,4 @@
-use Rattle.std.proofs.Common.{◌≡◌, ◌≤◌, ◌+◌, ◌++◌, ◌∷◌, ℕ, List, Some, None, length, take, drop, slice_get, refl, sym, ap, ◌∙◌, subst, arith}
+use Rattle.std.proofs.Common.{◌≡◌, Some, None, length, slice_get, refl, sym, ap, ◌∙◌, subst, arith}
 use Rattle.std.specs.Prelude.{slice_set}
 use Rattle.std.proofs.lemmas.List.{length-set}
 use Rattle.msg_tables.specs.Chain.{presence_of}
@@ -7,7 +7,6 @@ use Rattle.msg_tables.specs.Order.{IsOrder}
 use Rattle.msg_tables.specs.Preorder.{HavePreorder, is_in}
 use Rattle.msg_rows.specs.RowList.{rooms_of, rows_of}
 use Rattle.msg_tables.specs.declared.entry.Entry.TheVariants.{Disposed}
-use Rattle.msg_tables.specs.declared.presence.Presence.{Presence}
 use Rattle.msg_tables.proofs.DisposedLemmas.{disposed-inside, disposed-order-at, disposed-in, put-back-at, superclass-there, without-parts, without_at}
 use Rattle.msg_tables.proofs.JournalLemmas.{set-as_was, set-twice}
 use Rattle.msg_tables.proofs.OrderLemmas.{count-le, present-inside, read-presence}
@@ -61,7 +60,7 @@ invariant_of-self c =
     record {
       order = subst (IsOrder (slice_set supers c.args.class None)) (sym left) (disposed-order-at supers order c.self.invariant.order c.args.class named.0 named.1 c.place_in-place.result place);
       room = omega (arith, many, c.self.invariant.room, c.remove-class.ensures.capacity);
-      preorder = subst (λ ss. HavePreorder ss c.forget.new.self.depths.items c.forget.new.self.nexts.items) c.deref-2.ensures.value c.forget.ensures;
+      preorder = subst (λ ss. HavePreorder ss c.forget.new.self.depths c.forget.new.self.nexts) c.deref-2.ensures.value c.forget.ensures;
       lists = omega (arith, many, c.self.invariant.lists);
       listed = c.self.invariant.listed;
       counted = c.self.invariant.counted;
