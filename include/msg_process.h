@@ -15,17 +15,23 @@
  *     }
  *     if (!fault) fault = msg_process_find(SHAPE, false, AREA, &imp);
  *
- * Threads: any. A thread gets its sender at its first find, and gives it back
- * at its end. A thread that finds as many out as the config says, or no memory,
- * finds under the lock as long as it lives; so does a thread that ends, from
- * where its sender is given back. A thread's first find comes before the second
- * round of its destructors (pthread_key_create).
+ * The runtime is never closed: it lasts as long as the process. Don't pass it
+ * to msg_close.
  *
- * Fork: the child has its thread, that thread's sender and the runtime, as they
- * were; the others' senders are closed in it. It may find, change and start
- * threads. Fork in no handler of a signal. If the forking thread held the lock,
- * it does in the child, too, and there the sender of another thread that was in
- * a find may stay out.
+ * Threads: any. A sender is in use from a thread's first find until the thread
+ * ends. If all the config's senders are in use, or there is no memory, a thread
+ * that needs one finds under the lock until it ends. So does a thread that has
+ * given its sender back in a destructor (pthread_key_create). Rule: make a
+ * thread's first find before the second round of its destructors.
+ *
+ * A plug-in that is a shared object may find, too. Link it with the shared
+ * library, or let its program export these names to it (-rdynamic).
+ *
+ * Fork: the child has the forking thread, its sender and the runtime, as they
+ * were. The others' senders are closed, and msg_process_seen_by_all counts the
+ * child's own threads alone. The child may find, change and start threads. Fork
+ * in no handler of a signal. If the forking thread holds the lock, the child
+ * holds it too. Then a sender that was in a find may never be free again there.
  *
  * Handlers of signals find by msg_process_find_at_once, which waits for
  * nothing. If it returns MSG_LOCK_HELD, let the handler put the work off until
@@ -62,7 +68,8 @@ uint32_t msg_process_lock(msg_runtime **runtime);
 void msg_process_unlock(void);
 /* Caches what the lookup of a key finds by now, and notes it for the calling
  * thread, so that no thread waits for the lock to find it. The calling thread
- * holds the lock, after a change. It does nothing if that has no sender. */
+ * holds the lock, and has made its change. If it has no sender, nothing is
+ * cached. */
 void msg_process_cache(uint64_t key);
 
 /* ---- when old code can go ---- */
@@ -81,14 +88,16 @@ uint32_t msg_process_rest(void);
 uint32_t msg_process_away(void);
 /* Tells when old code can go. No thread is in a method that one of the first
  * `changes` changes took away, and no find returns it any more. This is the
- * least count of changes at which a thread rested last. A thread that has
- * ended, is away or never found anything doesn't count; if none counts, it is
- * the count of all changes. `thread` is the kernel's number of the thread that
- * rested at the least count, or 0 if all have rested since the last change.
+ * least count of changes at which a thread rested last. The calling thread
+ * counts, too, and one without a sender. A thread that has ended, is away or
+ * never found anything doesn't count; if none counts, it is the count of all
+ * changes. `thread` is the kernel's number of the thread that rested at the
+ * least count, or 0 if all have rested since the last change.
  *
- * Faults: MSG_NONE if the end of some thread isn't told: the C library had no
+ * Faults: MSG_NONE if some thread's end can't be told: the C library had no
  * memory for that, or the thread found something later than in the second round
- * of its destructors. MSG_CLOSED before the start, and MSG_LOCK_HELD under the
+ * of its destructors. It is then returned until the process ends, and no more
+ * old code may go. MSG_CLOSED before the start, and MSG_LOCK_HELD under the
  * lock.
  * Cost: a walk over the threads that count, under the lock. */
 uint32_t msg_process_seen_by_all(uint64_t *changes, uint64_t *thread);
@@ -103,9 +112,9 @@ uint32_t msg_process_seen_by_all(uint64_t *changes, uint64_t *thread);
 void msg_process_spare(void);
 
 enum { MSG_WAITS_NOT, MSG_WAITS, MSG_WAITS_A_WHILE };
-/* The inline calls below, if the calling thread has noted nothing, or isn't
- * asked. `waits` says whether it waits for the lock. A while is a second at
- * most, and ends if a fork has the lock.
+/* The inline calls below go on here if the thread's notes lack the lookup, or
+ * weren't asked. `waits` says whether the call waits for the lock. A while is a
+ * second at most, and ends if a fork has the lock.
  *
  * Faults: those of msg_process_find, and MSG_LOCK_HELD if the lock isn't to be
  * had so. */
@@ -118,15 +127,15 @@ uint32_t msg_process_find_slowly(uint64_t key, unsigned waits, uint32_t *imp);
 uint32_t msg_process_find_all(const msg_lookup_row *lookups, size_t count,
                               uint32_t *imps, size_t *place);
 
-/* What the inline call goes by. `turns`: how often the thread was on the slow
- * way. `sender`: its own; or one without notes while that is in use, and if it
- * has none. */
+/* What the inline call reads. `turns`: how often the thread was on the slow
+ * way. `sender`: its own; or one without notes, if the thread has none or is in
+ * a call with its own. */
 struct msg_process_thread {
     const msg_sender *sender;
     uint64_t turns;
 };
 /* Where the words are that threads share (msg_words): before the start `none`.
- * On a line of the cache of its own. */
+ * It has a cache line of its own. */
 struct msg_process_words {
     const uint64_t *at;
     uint64_t none, spare[6];
@@ -186,8 +195,9 @@ static inline uint32_t msg_process_find_key(uint64_t key, uint32_t *imp)
     return MSG_DONE;
 }
 
-/* Finds a message's implementation (objc_msg_lookup) by all changes that had
- * returned. `imp` is set to its number, or to 0, forwarding.
+/* Finds a message's implementation (objc_msg_lookup): what a lookup gives after
+ * all changes that had returned, and perhaps later ones. `imp` is set to its
+ * number, or to 0, forwarding.
  *
  * Faults: MSG_CLOSED before the start, MSG_NO_CLASS, MSG_NO_SELECTOR, and
  * MSG_LOCK_HELD if the calling thread holds the lock. */
@@ -201,8 +211,8 @@ static inline uint32_t msg_process_find(uint32_t number, bool meta,
 
 /* msg_process_find that never waits and takes no memory.
  *
- * Faults: those of msg_process_find, and MSG_LOCK_HELD also if it would ask
- * under the lock, and any thread has that. */
+ * Faults: those of msg_process_find, and MSG_LOCK_HELD also if it misses while
+ * any thread has the lock. */
 static inline uint32_t msg_process_find_at_once(uint32_t number, bool meta,
                                                 uint32_t sel, uint32_t *imp)
 {

@@ -21,13 +21,15 @@
  * changed and nothing was written through a pointer, unless the call says so.
  * After MSG_MISSED the sender may have seen more changes. A handle that is
  * closed, or opened twice, and numbers that belong to nobody are refused by a
- * fault. No call blocks, panics or aborts.
+ * fault. No call panics or aborts, except by an assert of MSG_CHECK. No call
+ * waits, except msg_find and msg_find_all, which take the lock after a miss.
  *
  * Trust. Nothing checks a C program, so a host is TRUSTED with these rules:
  *
  *   - This header says what crates/msg_c exports.
  *   - Pointers are not NULL (but see msg_open) and point to as much as is said.
- *     With a length of 0 any pointer will do, NULL too. A bool is 0 or 1.
+ *     What a call writes to overlaps no other argument. With a length of 0 any
+ *     pointer will do, NULL too. A bool is 0 or 1.
  *   - A handle starts as MSG_RUNTIME_INIT, MSG_SENDER_INIT or MSG_TEXTS_INIT
  *     (zero bytes). Its bytes are then left alone, and it is not copied: at
  *     most it is moved.
@@ -53,10 +55,12 @@
  * wrote before it made that change. So does whoever is told of the change by
  * msg_refresh, msg_probe, msg_fill, msg_meet or msg_rest: the library's shared
  * words are stored and loaded sequentially consistent. So a table of functions
- * may grow while threads send: first the new slot, then the change. What a host
- * writes before a change returns, inside the lock too, another thread may see
- * while it still finds what was before the change; what it writes after that,
- * nobody.
+ * may grow while threads send: first the new slot, then the change.
+ *
+ * To announce a change, a host stores a flag after the call has returned.
+ * Whoever sees that flag no longer finds the old number. A store made before
+ * the return announces nothing, not even under the lock: a thread may see it,
+ * and still find the old number.
  */
 #ifndef MSG_RUNTIME_H
 #define MSG_RUNTIME_H
@@ -192,7 +196,7 @@ struct msg_report_row {
     uint64_t collections; /* searches for arrays nobody holds any more */
     uint64_t freed;       /* arrays freed by them; other retired ones wait */
     uint64_t no_array[9]; /* entries not cached: no array of 4, 8, .. is free */
-    uint64_t refused_senders; /* senders asked for while all were out */
+    uint64_t refused_senders; /* senders asked for while all were in use */
 };
 
 /* ---- numbers of faults ---- */
@@ -221,7 +225,7 @@ enum {
     MSG_BAD_CONFIG = 73,   /* a field is beyond its most, or isn't known */
     MSG_BAD_CHANGE = 75,   /* a change of no kind, or meta above 1 */
     MSG_NO_ROOM = 76,      /* the array for the answer has another size */
-    MSG_LOCK_HELD = 74     /* msg_process.h: the thread has the lock */
+    MSG_LOCK_HELD = 74     /* msg_process.h: the lock is held already */
 };
 
 /* ---- opening and closing, under the lock ---- */
@@ -299,10 +303,13 @@ uint32_t msg_classes_below(msg_runtime *runtime, uint32_t number,
 
 /* ---- changing, under the lock ----
  *
- * A change that is made has flushed every cache that it affects when the call
- * returns. A lookup that begins after that, by a sender that has seen the
- * change, finds what the change says. Cost: a walk over the classes below the
- * one that changes; no walk over all classes. */
+ * When a change returns, every cache that it affects has been flushed. A find
+ * that begins after that sees the change, on any thread, without a refresh.
+ * This is proved for a sender that has seen the change, and tested for others.
+ *
+ * msg_set_imp, msg_exchange, msg_remove, msg_make_class and msg_make_root_class
+ * never return MSG_CHANGE_MEMORY in an open runtime. Cost: a walk over the
+ * classes below the one that changes; no walk over all classes. */
 
 /* Gives a class a method of its own (class_addMethod), which hides an inherited
  * one.
@@ -391,7 +398,8 @@ uint32_t msg_change_all(msg_runtime *runtime, const msg_change *changes,
                         size_t count, size_t *place);
 /* msg_change_all that also writes a way back: `undone` changes in `undo`,
  * which has `room` entries. Made as one directly afterwards they take the list
- * back.
+ * back. After another change they may still be accepted, and then overwrite or
+ * remove what others put there. So lists are taken back in reverse order.
  *
  * Each accepted list has a way back. It has a change for each method that the
  * list adds, writes or takes away, and for each class that it makes or takes
@@ -429,7 +437,8 @@ uint32_t msg_words(msg_runtime *runtime, const uint64_t **words);
  * Faults: MSG_ALREADY_OPEN, MSG_NO_MEMORY, and MSG_NO_SENDER, only if as many
  * are open as the config says. A sender that is closed counts no more. */
 uint32_t msg_sender_open(msg_runtime *runtime, msg_sender *sender);
-/* Closes a sender. It may be closed after its runtime was. */
+/* Closes a sender. `runtime` is the handle that opened it, even if that is
+ * closed by now: only a sender that isn't open is MSG_CLOSED. */
 uint32_t msg_sender_close(msg_runtime *runtime, msg_sender *sender);
 /* Looks a method up after all changes so far (lookUpImpOrForward), which the
  * sender has then seen. `imp` is set as by msg_lookup. The sender notes it, and
@@ -652,7 +661,7 @@ static inline const char *msg_fault_text(uint32_t fault)
     case MSG_BAD_CONFIG: return "the config asks for too much";
     case MSG_BAD_CHANGE: return "no such kind of change";
     case MSG_NO_ROOM: return "another count of places is needed for the answer";
-    case MSG_LOCK_HELD: return "the thread has the lock already";
+    case MSG_LOCK_HELD: return "the thread has the lock, or can't wait for it";
     default: return "unknown fault";
     }
 }
@@ -807,8 +816,9 @@ static inline uint32_t msg_recall_inline(const msg_sender *sender,
     return msg_recall_key(sender, words, msg_key(slot, sel));
 }
 
-/* Finds a message's implementation (objc_msg_lookup): the lookup at a version
- * not before what the sender had seen. `imp` is set to its number, or to 0,
+/* Finds a message's implementation (objc_msg_lookup): what a lookup gives after
+ * all changes that had returned, and perhaps later ones. That is never older
+ * than what the sender had seen. `imp` is set to its number, or to 0,
  * forwarding. It takes the lock after a miss. Trusted: this code, and the lock.
  *
  * Faults: MSG_NO_CLASS, MSG_NO_SELECTOR.

@@ -59,7 +59,7 @@ constexpr msg_lookup_row lookup(class_ref of, std::uint32_t selector) noexcept
     return {of.number, of.meta, selector};
 }
 
-// The changes of a list that locked::change_all makes as one, each what the call of its name makes alone.
+// The entries of a list for locked::change_all. Each does what the call of its name does.
 namespace change {
 constexpr msg_change add(class_ref to, std::uint32_t selector, std::uint32_t imp) noexcept
 {
@@ -112,8 +112,9 @@ struct shared {
 };
 } // namespace inner
 
-// The runtime lock, held: what may be asked and changed under it. A thread that has it opens, closes and fills no
-// sender meanwhile but by this.
+// The runtime lock, held: what may be asked and changed under it. A thread that has it opens, closes and finds with no
+// sender meanwhile, and calls neither lock, lookup nor close of the runtime: it would wait for itself. The calls of
+// this class are safe.
 class locked {
 public:
     locked(const locked &) = delete;
@@ -121,7 +122,8 @@ public:
 
     std::uint32_t class_count() { return told<std::uint32_t>(msg_class_count); }
     std::uint64_t change_count() { return told<std::uint64_t>(msg_change_count); }
-    // How many changes every open sender had seen when it rested last: what they took out may go.
+    // A count of changes: as many as every open sender had seen when it rested last. Code that the first so many
+    // changes took out can be freed.
     std::uint64_t seen_by_all() { return told<std::uint64_t>(msg_seen_by_all); }
     msg_report_row report()
     {
@@ -232,7 +234,8 @@ public:
     {
         change_all<std::initializer_list<msg_change>>(changes);
     }
-    // The same, and what takes them back if change_all makes it directly afterwards.
+    // The same, and the list that undoes these changes. Make it before any other change to the same methods. A later
+    // undo can still be accepted, and then it overwrites or removes what others put there.
     template <class Changes> std::vector<msg_change> change_all_with_undo(const Changes &changes)
     {
         std::vector<msg_change> undo(2 * std::size(changes) + 1);
@@ -277,7 +280,7 @@ public:
     std::uint32_t fill(sender &of, class_ref receiver, std::uint32_t selector);
     // The sender has then seen all changes.
     void meet(sender &of);
-    // The same, and nothing that the sender found before is in use.
+    // As meet. By calling it you promise that the sender's thread runs, and keeps, nothing it found before.
     void rest(sender &of);
 
 private:
@@ -367,7 +370,8 @@ private:
     std::shared_ptr<inner::shared> at;
 };
 
-// What one thread looks methods up by. It may be moved to another thread; two threads are never in one at a time.
+// What one thread looks methods up by. It notes what it finds in a cache of its own; what is cached lies in the cache
+// that all senders share. It may be moved to another thread; two threads are never in one at a time.
 class sender {
 public:
     explicit sender(const runtime &of) : at(of.mine()), own(new msg_sender())
@@ -385,7 +389,8 @@ public:
         return *this;
     }
 
-    // The implementation by all changes that returned before; 0 is forwarding.
+    // Returns the implementation of a method, or 0 if there is none. It sees every change that had returned when the
+    // call began.
     std::uint32_t find(class_ref of, std::uint32_t selector)
     {
         std::uint32_t slot = static_cast<std::uint32_t>(of.slot());

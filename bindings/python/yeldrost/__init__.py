@@ -132,8 +132,10 @@ def class_itself(number: int) -> ClassRef:
 
 
 class Change(NamedTuple):
-    """A change of a list that `Runtime.change_all` makes as one: what the runtime's method of the
-    name makes alone. It is made by `Change.add` and those that follow."""
+    """One entry in a list for `Runtime.change_all`. `Change.add` and those that follow make one that
+    does what the runtime's method of its name does. `kind` is the header's number: 1 adds, 2
+    replaces, 3 sets an implementation, 4 exchanges, 5 makes a class, 6 a root class, 7 removes, 8
+    disposes of a class, 9 covers."""
 
     kind: int
     number: int
@@ -203,8 +205,9 @@ class _Shared:
 
 
 class Runtime:
-    """A runtime without classes, which any thread may use. `with` closes it at its end. If
-    `holds_gil` is false, calls let the interpreter's lock go. 0 is the default of each number."""
+    """A runtime without classes, which any thread may use. `with` closes it at its end. 0 is the
+    default of each number. Calls hold the GIL. With `holds_gil=False` each gives it back and takes
+    it again, so that other threads run meanwhile: for long lists of changes."""
 
     def __init__(
         self,
@@ -236,8 +239,9 @@ class Runtime:
 
     @contextlib.contextmanager
     def held(self) -> Iterator[Runtime]:
-        """The runtime's lock: what is asked and changed inside, no other thread's changes come
-        between."""
+        """Holds the runtime's lock. No other thread can make a change inside the block. Other
+        threads can still find, so they can see some of your changes before the rest. The lock is
+        re-entrant: inside the block you may call anything, `Sender.find` too."""
         with self._shared.lock:
             yield self
 
@@ -288,7 +292,8 @@ class Runtime:
         return self._told(ctypes.c_uint64, "msg_change_count").value
 
     def seen_by_all(self) -> int:
-        """How many changes every open sender had seen when it rested last, or was opened: what they took out may go."""
+        """Returns a count of changes: as many as every open sender had seen when it rested last, or
+        was opened. Code that the first so many changes took out can be freed."""
         return self._told(ctypes.c_uint64, "msg_seen_by_all").value
 
     def report(self) -> Dict[str, Union[int, List[int]]]:
@@ -393,8 +398,10 @@ class Runtime:
         _errors.must_at(answer, place.value)
 
     def change_all_with_undo(self, changes: Iterable[Change]) -> List[Change]:
-        """The same, and returns the changes that take these back if `change_all` makes them
-        directly afterwards."""
+        """The same, and returns the list that undoes these changes. Make it before any other change
+        to the same methods. A later undo can still be accepted, and then it overwrites or removes
+        what others put there. Nothing warns you. If several tools swap one method, take the swaps
+        back in reverse order."""
         rows, count = _changes(changes)
         undone, place = ctypes.c_size_t(2 * count + 1), ctypes.c_size_t()
         answer = _NO_ROOM
@@ -462,7 +469,9 @@ def _close_sender(shared: _Shared, raw: _header.msg_sender) -> None:
 
 class Sender:
     """What one thread looks methods up by: that which opened it, or that which `adopt`s it. It may
-    outlive its runtime."""
+    outlive its runtime. It *notes* what it finds in a cache of its own. What is *cached* lies in the
+    cache that all senders share. A class's *stamp* is a count of changes: none after these has
+    affected the class."""
 
     def __init__(self, shared: _Shared) -> None:
         self._shared, self._raw, self._thread = shared, _header.msg_sender(), threading.get_ident()
@@ -496,8 +505,8 @@ class Sender:
             raise WrongThreadError()
 
     def find(self, of: Class, selector: int) -> Optional[int]:
-        """The implementation by all changes that returned before; None is forwarding. A probe, and
-        after a miss a fill under the lock."""
+        """Returns the implementation of a method, or None if there is none. It sees every change
+        that had returned when the call began. A probe, and after a miss a fill under the lock."""
         found = self._probe(of, selector)
         if found == _MISSED:
             return self.fill(of, selector)
@@ -555,7 +564,8 @@ class Sender:
             _errors.must(shared.library.msg_meet(shared.handle, self._at))
 
     def rest(self) -> None:
-        """As meet. Nothing that the sender found before is in use: its thread runs and keeps no such function."""
+        """As `meet`. By calling it you promise that this thread runs, and keeps, nothing it found
+        before."""
         self._own()
         shared = self._shared
         with shared.lock:
@@ -577,7 +587,7 @@ class Sender:
 
     def recall(self, of: Class, selector: int, since: int) -> Union[int, None, Missed]:
         """What is noted after `since` changes or more: an implementation, or None for forwarding.
-        `MISSED` if nothing is."""
+        `MISSED` if nothing is. Since the class's `stamp` it is what `find` returns."""
         self._own()
         _checked(selector)
         number, meta = _ref(of)

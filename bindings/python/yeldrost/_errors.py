@@ -21,7 +21,7 @@ class Error(Exception):
 
 
 class NoSuchClassError(Error):
-    """There is no class of the number, or it isn't made."""
+    """A change names a class that isn't made, or a number that is too large."""
 
     number = 1
 
@@ -75,7 +75,7 @@ class ClosedError(Error):
 
 
 class NoClassError(Error):
-    """A class number isn't below the count."""
+    """A question or a find names a class number that isn't below `class_count`."""
 
     number = 66
 

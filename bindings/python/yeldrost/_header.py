@@ -112,7 +112,7 @@ FAULTS = {
     "BadConfig": (73, "the config asks for too much"),
     "BadChange": (75, "no such kind of change"),
     "NoRoom": (76, "another count of places is needed for the answer"),
-    "LockHeld": (74, "the thread has the lock already"),
+    "LockHeld": (74, "the thread has the lock, or can't wait for it"),
 }
 
 _runtime, _sender = c.POINTER(msg_runtime), c.POINTER(msg_sender)

@@ -163,7 +163,7 @@ pub struct msg_report_row {
     pub freed: u64,
     /// Entries not cached: no array of 4, 8, .. is free.
     pub no_array: [u64; 9],
-    /// Senders asked for while all were out.
+    /// Senders asked for while all were in use.
     pub refused_senders: u64,
 }
 
@@ -221,7 +221,7 @@ pub const MSG_BAD_CONFIG: u32 = 73;
 pub const MSG_BAD_CHANGE: u32 = 75;
 /// The array for the answer has another size.
 pub const MSG_NO_ROOM: u32 = 76;
-/// Msg_process.h: the thread has the lock.
+/// Msg_process.h: the lock is held already.
 pub const MSG_LOCK_HELD: u32 = 74;
 
 extern "C" {

@@ -61,7 +61,8 @@ fn main() -> Result<(), Fault> {
         "area {} after the swap, in each thread",
         send(&mut sender, area, 3)?
     );
-    if let Err(fault) = runtime.lock().make_root_class(SQUARE) {
+    let made = runtime.lock().make_root_class(SQUARE).map(|_| ()); // the lock is given back here
+    if let Err(fault) = made {
         println!("fault: {fault}");
     }
     Ok(())

@@ -2,8 +2,8 @@ use crate::{ClassRef, Fault, Imp, Selector};
 use std::fmt;
 use yeldrost_sys as sys;
 
-/// A change of a list that [`Locked::change_all`](crate::Locked::change_all) makes as one: what the call of its name
-/// makes alone.
+/// One entry in a list for [`Locked::change_all`](crate::Locked::change_all). Each variant does what the method of its
+/// name does.
 #[derive(Clone, Copy, Debug, PartialEq, Eq, Hash)]
 pub enum Change {
     /// As [`add`](crate::Locked::add).

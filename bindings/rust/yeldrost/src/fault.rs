@@ -5,7 +5,7 @@ use yeldrost_sys as sys;
 #[derive(Clone, Copy, Debug, PartialEq, Eq, Hash)]
 #[non_exhaustive]
 pub enum Fault {
-    /// No class of the number, or it isn't made.
+    /// A change names a class that isn't made, or a number that is too large.
     NoSuchClass,
     /// The implementation's number is 0, which no [`Imp`](crate::Imp) has.
     NoSuchImp,
@@ -23,7 +23,7 @@ pub enum Fault {
     ClassInUse,
     /// The runtime was closed.
     Closed,
-    /// A class number isn't below the count.
+    /// A question or a find names a class number that isn't below `class_count`.
     NoClass,
     /// As many senders as the config says are open.
     NoSender,

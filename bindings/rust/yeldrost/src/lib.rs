@@ -169,8 +169,21 @@ impl Runtime {
         })))
     }
 
-    /// The runtime's lock, held until what is given is dropped. A thread that holds it opens, drops and asks no
-    /// sender meanwhile, but by [`Locked::fill`] and [`Locked::meet`]: it would wait for itself.
+    /// The runtime's lock, held until what is given is dropped.
+    ///
+    /// A thread that holds it calls no method of [`Runtime`] that takes the lock: `lock`, `lookup`, `superclass`,
+    /// `holder`, `sender` and `close`. It also opens, drops and finds with no sender. It would wait for itself. The
+    /// calls of [`Locked`] are safe. In `if let` and `match` on `runtime.lock()...` the lock is held until the end of
+    /// the block, so store the result in a `let` first:
+    ///
+    /// ```
+    /// # use yeldrost::{Config, Runtime};
+    /// # let runtime = Runtime::open(Config::default()).unwrap();
+    /// let made = runtime.lock().make_root_class(0).map(|_| ());
+    /// if made.is_ok() {
+    ///     runtime.sender().unwrap();
+    /// }
+    /// ```
     pub fn lock(&self) -> Locked<'_> {
         Locked::of(&self.0)
     }

@@ -5,7 +5,10 @@ use std::sync::{Arc, MutexGuard};
 use yeldrost_sys as sys;
 
 /// The runtime's lock, held: what may be asked and changed under it. A change that is made has flushed each cache
-/// that it affects before it returns; one that is refused has changed nothing. Changes can be chained.
+/// that it affects before it returns; one that is refused has changed nothing.
+///
+/// Each call in a chain is a change of its own. If one is refused, those before it stay made. Other threads can find
+/// between them. [`change_all`](Locked::change_all) makes several as one.
 #[derive(Debug)]
 pub struct Locked<'r> {
     shared: &'r Arc<Shared>,
@@ -219,8 +222,11 @@ impl<'r> Locked<'r> {
         self.change(made).map_err(|fault| Refused::of(fault, place))
     }
 
-    /// As [`change_all`](Locked::change_all), and returns the list that takes the changes back if it is made directly
-    /// afterwards.
+    /// As [`change_all`](Locked::change_all), and returns the list that undoes these changes.
+    ///
+    /// Make that list before any other change to the same methods. A later undo can still be accepted, and then it
+    /// overwrites or removes what others put there. Nothing warns you. If several tools swap one method, take the
+    /// swaps back in reverse order.
     pub fn change_all_with_undo(&mut self, changes: &[Change]) -> Result<Vec<Change>, Refused> {
         let rows: Vec<sys::msg_change> = changes.iter().map(|it| it.row()).collect();
         let mut undo = Vec::new();
@@ -303,15 +309,15 @@ impl<'r> Locked<'r> {
         Fault::of(unsafe { sys::msg_meet(&mut self.handle.0, raw) })
     }
 
-    /// As [`meet`](Locked::meet). The caller says by it that nothing the sender found before is in
-    /// use: its thread runs no such function, and keeps none to call.
+    /// As [`meet`](Locked::meet). By calling it you promise that the sender's thread runs, and keeps, nothing it
+    /// found before.
     pub fn rest(&mut self, sender: &mut Sender) -> Result<(), Fault> {
         let raw = sender.raw_of(self.shared)?;
         Fault::of(unsafe { sys::msg_rest(&mut self.handle.0, raw) })
     }
 
-    /// How many changes every open sender had seen when it rested last, or was opened; all if none
-    /// is open. No sender finds what was before them: a function that they took out may be freed.
+    /// Returns a count of changes: as many as every open sender had seen when it rested last, or was opened; all if
+    /// none is open. Code that the first so many changes took out can be freed.
     pub fn seen_by_all(&mut self) -> Result<u64, Fault> {
         let mut count = 0;
         Fault::of(unsafe { sys::msg_seen_by_all(&mut self.handle.0, &mut count) })?;

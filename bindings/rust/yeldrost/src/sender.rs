@@ -14,7 +14,10 @@ pub enum Probed {
     Missed,
 }
 
-/// What one thread looks methods up by. It may go to another thread (`Send`), and isn't shared by two (not `Sync`):
+/// What one thread looks methods up by. It *notes* what it finds in a cache of its own. What is *cached* lies in the
+/// cache that all senders share. A class's *stamp* is a count of changes: none after these has affected the class.
+///
+/// It may go to another thread (`Send`), and isn't shared by two (not `Sync`):
 ///
 /// ```compile_fail
 /// fn is_sync<T: Sync>() {}
@@ -43,7 +46,8 @@ impl Sender {
         })
     }
 
-    /// The implementation by all changes that returned before; none is forwarding.
+    /// Returns the implementation of a method, or `None` if there is none. It sees every change that had returned
+    /// when the call began.
     #[inline]
     pub fn find(&mut self, of: ClassRef, selector: Selector) -> Result<Option<Imp>, Fault> {
         match self.recall(of, selector) {
@@ -52,7 +56,7 @@ impl Sender {
         }
     }
 
-    /// The same by calls: a probe, and after a miss a fill under the lock.
+    /// The same by the library's calls alone: a probe, and after a miss a fill under the lock.
     #[cold]
     pub fn find_called(&mut self, of: ClassRef, selector: Selector) -> Result<Option<Imp>, Fault> {
         let mut imp = 0;
