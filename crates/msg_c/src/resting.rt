@@ -48,10 +48,9 @@ pub extern "C" fn msg_rest(
     DONE
 }
 
-/// For each open sender, take the number of changes that it had seen when it last rested or was
-/// opened. Gives the least of these numbers, or the number of all changes if no sender is open.
-/// Each sender has seen that many, so it finds nothing older from then on. It goes over all sender
-/// numbers.
+/// The least number of changes that an open sender had seen when it last rested or was opened. If
+/// no sender is open, it is the number of all changes. Each sender has seen that many, so it finds
+/// nothing older from then on. It goes over all sender numbers.
 #[unsafe(no_mangle)]
 pub extern "C" fn msg_seen_by_all(
     alloc: Global,

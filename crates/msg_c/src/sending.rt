@@ -99,6 +99,7 @@ pub extern "C" fn msg_sender_close(
     ensures closed { sender.new.held.state ≡ None }
     ensures blank { AreBlank sender.new.notes }
     ensures was_closed { sender.old.held.state ≡ None → result ≡ CLOSED }
+    ensures unrested { result ≢ 0 → runtime.new.held.state ≡ runtime.old.held.state }
     ensures was_open { HasSender sender.old → result ≡ 0 }
 {
     let Some(taken) = sender.close(alloc) else {
@@ -177,8 +178,8 @@ pub extern "C" fn msg_recall(sender: &SenderHandle, slot: usize, sel: u32, since
     }
 }
 
-/// The stamp of a class or of its metaclass: no change after that many has affected it. So a lookup
-/// finds what was noted of it after at least that many changes. The sender has then seen all
+/// The stamp of a class or of its metaclass: of the changes that the sender has then seen, none
+/// after that many has affected it. So a lookup finds what was noted of it after at least that many
 /// changes. The call needs no lock, and loads one shared word.
 #[unsafe(no_mangle)]
 pub extern "C" fn msg_stamp(
@@ -280,6 +281,7 @@ pub extern "C" fn msg_meet(
     ensures closed { runtime.old.held.state ≡ None → result ≡ CLOSED }
     ensures no_sender { sender.old.held.state ≡ None → result ≡ CLOSED }
     ensures left { result ≢ 0 → sender.new.held.state ≡ sender.old.held.state }
+    ensures unrested { result ≢ 0 → runtime.new.held.state ≡ runtime.old.held.state }
     ensures was_open { HasRuntime runtime.old → HasSender sender.old → result ≡ 0 }
     ensures notes { sender.new.notes ≡ sender.old.notes }
     ensures begins { SeesMore sender.old sender.new }

@@ -65,8 +65,8 @@ impl HostedSender {
         self.reader.refresh(&self.arena)
     }
 
-    // The stamp of a class reference: no change after that many has affected it. The sender has
-    // then seen all changes.
+    // The stamp of a class reference: of the changes that the sender has then seen, none after that
+    // many has affected it.
     pub(crate) fn load_stamp(&mut self, class: ClassRef) -> u64
         requires { class.class < classes self.old.arena }
         ensures arena { self.new.arena ≡ self.old.arena }

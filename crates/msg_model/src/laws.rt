@@ -1,7 +1,8 @@
-//! Laws of the machine, over every layout and every list of events.
+//! Laws of the machine, over every layout and every list of events that are allowed.
 //!
 //! They are about the definitions alone, for every lookup function. So they hold for anything that
-//! keeps its words by these events.
+//! keeps its words by these events. The last laws are about histories of changes, and about the
+//! lookup of `msg_tables`.
 
 ghost use Rattle.msg_model.specs.Laws.{EventsKeepSound, FilledIsRead, HolderHasLoaded, LastAffectedIsReached, LastAffectedOfLonger, LookupStaysInLonger, LookupStaysSince, NobodyHoldsCleared, NobodyHoldsInstalled, ReadAgreesSinceHeader, ReadHasSelector, ReaderHolds, RunsAreLawful, RunsAreSound};
 

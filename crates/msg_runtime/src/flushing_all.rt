@@ -17,6 +17,7 @@ use msg_tables::{ChangeList, ChangeRef, Entry, Recent, Tables};
 
 // Flushes the caches that an entry affects: those of a class that was made or disposed of, or those
 // of the class reference where rows were written and of all below.
+#[inline(always)]
 fn flush_entry(keeper: &mut Keeper, arena: &Arena, tables: &Tables, entry: Entry)
     requires arena { IsKeeperOf arena.now keeper.old }
     requires listed { NamesListed (length tables.now.supers) entry }
@@ -35,6 +36,7 @@ fn flush_entry(keeper: &mut Keeper, arena: &Arena, tables: &Tables, entry: Entry
 }
 
 // Flushes the caches that an entry affects, unless what is below its place was flushed lately.
+#[inline(always)]
 fn flush_once(
     keeper: &mut Keeper,
     arena: &Arena,
@@ -53,7 +55,7 @@ fn flush_once(
     ensures recent { (c : ClassRef) → HasPlace recent.new c → IsFlushedBelow arena.now tables.now keeper.new c }
     ensures others { StayFlushed arena.now keeper.old keeper.new }
 {
-    if !recent.had(entry) {
+    if !recent.had(&entry) {
         flush_entry(keeper, arena, tables, entry);
     }
 }

@@ -31,7 +31,7 @@ impl<'t> Model for Below<'t> {
 }
 
 impl<'t> Below<'t> {
-    /// The classes, each after its superclass if that is among them.
+    /// The classes, each once: that of the reference, then those below it in any order.
     #[inline(always)]
     pub fn classes(self) -> Walk<'t>
         ensures { result ≡ self.entry.classes }

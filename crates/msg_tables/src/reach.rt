@@ -43,7 +43,7 @@ impl Tables {
         ensures recent { (c : ClassRef) → HasPlace recent.new c → IsMarkedBelow self.now marked.new c }
         ensures length { length marked.new ≡ length marked.old }
     {
-        if !recent.had(entry) {
+        if !recent.had(&entry) {
             self.mark_entry(entry, marked);
         }
     }

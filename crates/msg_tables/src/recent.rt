@@ -9,22 +9,23 @@ use crate::entry::Entry;
 use msg_names::ClassRef;
 use std::marker::Model;
 
-const PLACES: usize = 16;
+const PLACES: usize = 8;
 
-/// Some of the class references that were visited last. Two share a place here if the difference of
-/// their slots is a multiple of 16; then the later one stays.
+/// Some of the class references that were visited last, eight at most. Of two whose slots differ by
+/// a multiple of eight, the later one is among them. No clause says which are: that is a matter of
+/// cost alone.
 #[derive(Drop)]
 pub struct Recent {
-    places: [Option<ClassRef>; PLACES],
+    // one more than the slot of each, or 0
+    marks: [usize; PLACES],
 }
 
 impl Model for Recent {
-    ghost use Rattle.std.specs.Prelude.{List, Option};
-    ghost use Rattle.msg_names.specs.declared.value.ClassRef.{ClassRef};
+    ghost use Rattle.std.specs.Prelude.{List, ℕ};
 
-    ghost Value = { List (Option ClassRef) };
+    ghost Value = { List ℕ };
 
-    ghost view = { λ r. r.places };
+    ghost view = { λ r. r.marks };
 }
 
 impl Recent {
@@ -32,25 +33,25 @@ impl Recent {
     pub fn none() -> Recent
         ensures { HasNoPlace result }
     {
-        Recent {
-            places: [None; PLACES],
-        }
+        Recent { marks: [0; PLACES] }
     }
 
     /// Whether an entry wrote at one of these class references. If not, the one where it wrote
     /// comes to them.
-    pub fn had(&mut self, entry: Entry) -> bool
-        ensures had { result ≡ true → HasPlaceOf self.old entry }
-        ensures places { (c : ClassRef) → HasPlace self.new c → HasPlace self.old c ⊎ (place_of entry ≡ Some c) }
+    #[inline(always)]
+    pub fn had(&mut self, entry: &Entry) -> bool
+        ensures had { result ≡ true → HasPlaceOf self.old entry.now }
+        ensures places { (c : ClassRef) → HasPlace self.new c → HasPlace self.old c ⊎ (place_of entry.now ≡ Some c) }
     {
         let Some(place) = entry.place() else {
             return false;
         };
-        let index = place.slot() % PLACES;
-        if self.places[index] == Some(place) {
+        let mark = place.slot() + 1;
+        let index = mark % PLACES;
+        if self.marks[index] == mark {
             return true;
         }
-        self.places[index] = Some(place);
+        self.marks[index] = mark;
         false
     }
 }

@@ -7,7 +7,7 @@ ghost use Rattle.msg_tables.specs.Walk.{AreAllBelow, AreFirstAndOnce, CanBeWalke
 use crate::preorder::Preorder;
 use std::marker::Model;
 
-/// The classes that a walk has still to visit, each after its superclass if it visits that.
+/// The classes that a walk has still to visit, each once. No clause says in which order.
 ///
 /// The walk follows the links from one class to the next. It takes no memory.
 #[derive(Drop)]
