@@ -19,13 +19,20 @@
  * to msg_close.
  *
  * Threads: any. A sender is in use from a thread's first find until the thread
- * ends. If all the config's senders are in use, or there is no memory, a thread
- * that needs one finds under the lock until it ends. So does a thread that has
- * given its sender back in a destructor (pthread_key_create). Rule: make a
- * thread's first find before the second round of its destructors.
+ * ends; msg_process_find_at_once alone gives it none. If all the config's
+ * senders are in use, or there is no memory, a thread that needs one finds
+ * under the lock until it ends. So does a thread that has given its sender back
+ * in a destructor (pthread_key_create). Rule: make a thread's first find before
+ * the second round of its destructors.
  *
- * A plug-in that is a shared object may find, too. Link it with the shared
- * library, or let its program export these names to it (-rdynamic).
+ * The end of a thread that has found takes the lock. Rule: join no thread while
+ * you hold it.
+ *
+ * A plug-in that is a shared object may find, too, if it reaches its program's
+ * copy of the library. Either link both with the shared library (pkg-config's
+ * yeldrost). Or link the program with the static one (yeldrost-static) and
+ * -rdynamic, and the plug-in with neither: it takes yeldrost's --cflags alone.
+ * If the plug-in has a copy of its own, its finds return MSG_CLOSED.
  *
  * Fork: the child has the forking thread, its sender and the runtime, as they
  * were. The others' senders are closed, and msg_process_seen_by_all counts the
@@ -41,6 +48,10 @@
  * wants memory, and a thread's first find takes some: so don't call them if
  * malloc may be what the handler interrupted. A handler ends by its return, and
  * no thread is cancelled asynchronously.
+ *
+ * Rule: start while the process has fewer than 32 thread keys
+ * (pthread_key_create). With more, glibc takes memory in a thread's first find,
+ * also by msg_process_find_at_once or after msg_process_spare.
  *
  * msg_runtime.h promises nothing of its calls in handlers and in a forked
  * child: that they work there is tested (tools/test/process), not proved. */
@@ -84,15 +95,19 @@ uint32_t msg_process_rest(void);
 /* A rest before the thread waits for long. Until its next find, which takes the
  * lock, no host waits for it.
  *
- * Faults: MSG_LOCK_HELD under the lock. */
+ * Faults: MSG_CLOSED before the start, and MSG_LOCK_HELD under the lock. */
 uint32_t msg_process_away(void);
-/* Tells when old code can go. No thread is in a method that one of the first
- * `changes` changes took away, and no find returns it any more. This is the
- * least count of changes at which a thread rested last. The calling thread
- * counts, too, and one without a sender. A thread that has ended, is away or
- * never found anything doesn't count; if none counts, it is the count of all
- * changes. `thread` is the kernel's number of the thread that rested at the
- * least count, or 0 if all have rested since the last change.
+/* Tells when old code can go. No thread is in a method that a find returned and
+ * one of the first `changes` changes took away, and no find returns it any
+ * more. What msg_lookup or msg_methods returned doesn't count: don't call it
+ * after the unlock, but find it then.
+ *
+ * `changes` is the least count of changes at which a thread rested last. A
+ * thread's first find, also its first after it was away, counts as a rest. The
+ * calling thread counts, too, and one without a sender. A thread that has
+ * ended, is away or never found anything doesn't count; if none counts, it is
+ * the count of all changes. `thread` is the kernel's number of the thread that
+ * rested at the least count, or 0 if all have rested since the last change.
  *
  * Faults: MSG_NONE if some thread's end can't be told: the C library had no
  * memory for that, or the thread found something later than in the second round
@@ -104,9 +119,10 @@ uint32_t msg_process_seen_by_all(uint64_t *changes, uint64_t *thread);
 
 /* ---- finding, from any thread ---- */
 
-/* Opens senders ahead, so that a thread's first find has one and takes no
- * memory. By a thread that may take memory, outside the lock: a program's
- * start, and what it does where it allocates, are places to call it.
+/* Opens one sender ahead, if fewer than two are spare and the runtime is
+ * started. A thread's first find then takes it, and no memory. Call it by a
+ * thread that may take memory, outside the lock: twice after the start, and
+ * again where the program allocates.
  *
  * Cost: a load if senders are spare. */
 void msg_process_spare(void);
@@ -200,7 +216,9 @@ static inline uint32_t msg_process_find_key(uint64_t key, uint32_t *imp)
  * number, or to 0, forwarding.
  *
  * Faults: MSG_CLOSED before the start, MSG_NO_CLASS, MSG_NO_SELECTOR, and
- * MSG_LOCK_HELD if the calling thread holds the lock. */
+ * MSG_LOCK_HELD if it misses while the calling thread holds the lock. Don't
+ * rely on a hit there: under the lock call msg_lookup. Don't call its result
+ * after the unlock: msg_process_seen_by_all doesn't count it. */
 static inline uint32_t msg_process_find(uint32_t number, bool meta,
                                         uint32_t sel, uint32_t *imp)
 {
@@ -209,7 +227,10 @@ static inline uint32_t msg_process_find(uint32_t number, bool meta,
     return msg_process_find_key(msg_key(slot, sel), imp);
 }
 
-/* msg_process_find that never waits and takes no memory.
+/* msg_process_find that never waits and takes no memory. It gives the thread no
+ * sender, even if one is spare, and brings back none that the thread had before
+ * it was away. Until the thread finds by another call, each find here wants the
+ * lock.
  *
  * Faults: those of msg_process_find, and MSG_LOCK_HELD also if it misses while
  * any thread has the lock. */

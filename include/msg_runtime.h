@@ -294,10 +294,10 @@ uint32_t msg_methods(msg_runtime *runtime, uint32_t number, bool meta,
 uint32_t msg_classes(msg_runtime *runtime, uint32_t *classes, size_t room,
                      size_t *count);
 /* The classes below a class, in the same way: its subclasses, theirs, and so
- * on, each once.
+ * on, each once. Their order isn't promised.
  *
  * Faults: MSG_NO_CLASS, MSG_NO_ROOM.
- * Cost: a walk over these classes. */
+ * Cost: two walks over these classes. */
 uint32_t msg_classes_below(msg_runtime *runtime, uint32_t number,
                            uint32_t *classes, size_t room, size_t *count);
 
@@ -308,8 +308,9 @@ uint32_t msg_classes_below(msg_runtime *runtime, uint32_t number,
  * This is proved for a sender that has seen the change, and tested for others.
  *
  * msg_set_imp, msg_exchange, msg_remove, msg_make_class and msg_make_root_class
- * never return MSG_CHANGE_MEMORY in an open runtime. Cost: a walk over the
- * classes below the one that changes; no walk over all classes. */
+ * never lack memory: MSG_CHANGE_MEMORY is in their lists of faults, but an open
+ * runtime doesn't return it there. Cost: a walk over the classes below the one
+ * that changes; no walk over all classes. */
 
 /* Gives a class a method of its own (class_addMethod), which hides an inherited
  * one.
@@ -398,8 +399,9 @@ uint32_t msg_change_all(msg_runtime *runtime, const msg_change *changes,
                         size_t count, size_t *place);
 /* msg_change_all that also writes a way back: `undone` changes in `undo`,
  * which has `room` entries. Made as one directly afterwards they take the list
- * back. After another change they may still be accepted, and then overwrite or
- * remove what others put there. So lists are taken back in reverse order.
+ * back. After another change of the same methods or classes they may be
+ * refused. Or they are accepted, and overwrite or remove what others put there.
+ * So such lists are taken back in reverse order.
  *
  * Each accepted list has a way back. It has a change for each method that the
  * list adds, writes or takes away, and for each class that it makes or takes
@@ -468,8 +470,9 @@ uint32_t msg_rest(msg_runtime *runtime, msg_sender *sender);
 /* When old code can go: how many changes every open sender had seen when it
  * rested last. All changes if none is open. No sender will find what was
  * before them, so a function that the first `count` changes took out may be
- * freed. The host sees to it that no later change puts it back, and that
- * nobody calls msg_lookup, or msg_recall with less than `count`, for it.
+ * freed. The host sees to three things. No later change puts it back. No thread
+ * calls it by a number that msg_lookup or msg_methods returned before: that
+ * isn't counted. And nobody calls msg_recall with less than `count`.
  *
  * Cost: it goes over all sender numbers of the config. */
 uint32_t msg_seen_by_all(msg_runtime *runtime, uint64_t *count);

@@ -27,7 +27,7 @@ public:
     {
     }
     std::uint32_t number() const noexcept { return number_; }
-    // Of locked::change_all: which change of the list is refused, from 0.
+    // Of a list of changes or of lookups: which of them is refused, from 0.
     std::optional<std::size_t> place() const noexcept { return place_; }
 
 private:
@@ -122,8 +122,9 @@ public:
 
     std::uint32_t class_count() { return told<std::uint32_t>(msg_class_count); }
     std::uint64_t change_count() { return told<std::uint64_t>(msg_change_count); }
-    // A count of changes: as many as every open sender had seen when it rested last. Code that the first so many
-    // changes took out can be freed.
+    // A count of changes: as many as every open sender had seen when it rested last; all if none is open. Code that
+    // the first so many changes took out can be freed. See to it that no later change puts it back, and that no thread
+    // calls what lookup or methods returned before: that isn't counted.
     std::uint64_t seen_by_all() { return told<std::uint64_t>(msg_seen_by_all); }
     msg_report_row report()
     {
@@ -234,8 +235,8 @@ public:
     {
         change_all<std::initializer_list<msg_change>>(changes);
     }
-    // The same, and the list that undoes these changes. Make it before any other change to the same methods. A later
-    // undo can still be accepted, and then it overwrites or removes what others put there.
+    // The same, and the list that undoes these changes. Make it before any other change to the same methods or classes.
+    // Later it may be refused, or it is accepted and overwrites or removes what others put there.
     template <class Changes> std::vector<msg_change> change_all_with_undo(const Changes &changes)
     {
         std::vector<msg_change> undo(2 * std::size(changes) + 1);
@@ -257,8 +258,8 @@ public:
     {
         return change_all_with_undo<std::initializer_list<msg_change>>(changes);
     }
-    // Which lookups change_all would alter, without making it; what it wouldn't make it throws. It takes memory for
-    // all class numbers.
+    // Which lookups change_all may alter, without making it: those of what is returned. All others stay as they are. If
+    // change_all would throw, so does this. It takes memory for all class numbers.
     template <class Changes> std::vector<class_ref> reach(const Changes &changes)
     {
         std::size_t room = 2 * std::size_t{class_count()}, place = 0;

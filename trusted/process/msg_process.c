@@ -29,9 +29,9 @@
  *  6. A fork that has the lock waits for the C library's memory, which a handler's thread may have.
  *     So from `still` on a find for a while doesn't wait for the fork. No change is half made then.
  *  7. Seats are opened where memory may be taken. A thread's first find takes one that is spare: it
- *     asks for no memory, since it may be a handler's. Where there is none it asks under the lock;
- *     only after PATIENCE of these it opens one itself. A thread has one try at that, and none
- *     waits for a number.
+ *     asks for no memory, since it may be a handler's. (glibc does, if 32 thread keys came before
+ *     ours.) Where there is none it asks under the lock; only after PATIENCE of these it opens one
+ *     itself. A thread has one try at that, and none waits for a number.
  *  8. `started` is stored by a release, and loaded by an acquire before all else: who goes on has
  *     the key of threads.
  *  9. A thread joins `stays` under the lock, before its first find returns. Its entry has the count

@@ -240,8 +240,9 @@ class Runtime:
     @contextlib.contextmanager
     def held(self) -> Iterator[Runtime]:
         """Holds the runtime's lock. No other thread can make a change inside the block. Other
-        threads can still find, so they can see some of your changes before the rest. The lock is
-        re-entrant: inside the block you may call anything, `Sender.find` too."""
+        threads find what is noted or cached, and so can see some of your changes before the rest. A
+        find of theirs that misses waits until the block ends. The lock is re-entrant: inside the
+        block you may call anything, `Sender.find` too."""
         with self._shared.lock:
             yield self
 
@@ -293,7 +294,9 @@ class Runtime:
 
     def seen_by_all(self) -> int:
         """Returns a count of changes: as many as every open sender had seen when it rested last, or
-        was opened. Code that the first so many changes took out can be freed."""
+        was opened; all if none is open. Code that the first so many changes took out can be freed.
+        See to it that no later change puts it back, and that no thread calls what `lookup` or
+        `methods` returned before: that isn't counted."""
         return self._told(ctypes.c_uint64, "msg_seen_by_all").value
 
     def report(self) -> Dict[str, Union[int, List[int]]]:
@@ -391,7 +394,8 @@ class Runtime:
     def change_all(self, changes: Iterable[Change]) -> None:
         """Makes several changes as one: each lookup finds what was before all of them or what
         is after all. The list is refused for the first that would be refused after those before it. Then
-        nothing has changed, and the error has its `place`."""
+        nothing has changed. The error has its `place`: None if a number doesn't fit in 32 bits, or
+        if the runtime isn't open."""
         rows, count = _changes(changes)
         place = ctypes.c_size_t()
         answer = self._answer("msg_change_all", rows, count, ctypes.byref(place))
@@ -399,9 +403,10 @@ class Runtime:
 
     def change_all_with_undo(self, changes: Iterable[Change]) -> List[Change]:
         """The same, and returns the list that undoes these changes. Make it before any other change
-        to the same methods. A later undo can still be accepted, and then it overwrites or removes
-        what others put there. Nothing warns you. If several tools swap one method, take the swaps
-        back in reverse order."""
+        to the same methods or classes. Later it may be refused: a class can't be taken away while a
+        class is below it. Or it is accepted, and overwrites or removes what others put there.
+        Nothing warns you. If several tools swap one method, take the swaps back in reverse
+        order."""
         rows, count = _changes(changes)
         undone, place = ctypes.c_size_t(2 * count + 1), ctypes.c_size_t()
         answer = _NO_ROOM
@@ -423,8 +428,9 @@ class Runtime:
         ]
 
     def reach(self, changes: Iterable[Change]) -> List[ClassRef]:
-        """Which lookups `change_all` would alter, without making the changes: those of these class
-        references and no others. It takes memory for all class numbers."""
+        """Which lookups `change_all` may alter, without making the changes: those of the class
+        references that it returns. All others stay as they are. It takes memory for all class
+        numbers."""
         rows, count = _changes(changes)
         reached, place = (ctypes.c_bool * (2 * self.class_count))(), ctypes.c_size_t()
         with self._shared.lock:

@@ -165,12 +165,12 @@ impl Change {
     }
 }
 
-/// Why a list of changes was refused. Nothing has changed by it.
+/// Why a list of changes or of lookups was refused. Nothing has changed by it.
 #[derive(Clone, Copy, Debug, PartialEq, Eq, Hash)]
 pub struct Refused {
     /// Why.
     pub fault: Fault,
-    /// Which change of the list was refused, from 0. None if the runtime isn't open.
+    /// Which change or lookup was refused, from 0. None if the runtime isn't open.
     pub place: Option<usize>,
 }
 
@@ -192,7 +192,7 @@ impl From<Refused> for Fault {
 impl fmt::Display for Refused {
     fn fmt(&self, f: &mut fmt::Formatter<'_>) -> fmt::Result {
         match self.place {
-            Some(place) => write!(f, "change {place}: {}", self.fault),
+            Some(place) => write!(f, "place {place}: {}", self.fault),
             None => self.fault.fmt(f),
         }
     }

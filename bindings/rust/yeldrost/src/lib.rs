@@ -173,8 +173,12 @@ impl Runtime {
     ///
     /// A thread that holds it calls no method of [`Runtime`] that takes the lock: `lock`, `lookup`, `superclass`,
     /// `holder`, `sender` and `close`. It also opens, drops and finds with no sender. It would wait for itself. The
-    /// calls of [`Locked`] are safe. In `if let` and `match` on `runtime.lock()...` the lock is held until the end of
-    /// the block, so store the result in a `let` first:
+    /// calls of [`Locked`] are safe.
+    ///
+    /// The guard of `runtime.lock()...` lives until its statement ends. So the lock is held in the call's arguments,
+    /// in all of a `println!` or an `assert_eq!`, and on the other side of a `<`. It is held in the block of `for`,
+    /// `while let`, `if let` and `match`, too. Before edition 2024, a function's last expression holds it while the
+    /// locals are dropped, and a [`Sender`] among them waits for it. In each case store the result in a `let` first:
     ///
     /// ```
     /// # use yeldrost::{Config, Runtime};

@@ -7,8 +7,9 @@ use yeldrost_sys as sys;
 /// The runtime's lock, held: what may be asked and changed under it. A change that is made has flushed each cache
 /// that it affects before it returns; one that is refused has changed nothing.
 ///
-/// Each call in a chain is a change of its own. If one is refused, those before it stay made. Other threads can find
-/// between them. [`change_all`](Locked::change_all) makes several as one.
+/// Each call in a chain is a change of its own. If one is refused, those before it stay made. Between them other
+/// threads find what is noted or cached; a find that misses waits for the lock. [`change_all`](Locked::change_all)
+/// makes several as one.
 #[derive(Debug)]
 pub struct Locked<'r> {
     shared: &'r Arc<Shared>,
@@ -224,9 +225,9 @@ impl<'r> Locked<'r> {
 
     /// As [`change_all`](Locked::change_all), and returns the list that undoes these changes.
     ///
-    /// Make that list before any other change to the same methods. A later undo can still be accepted, and then it
-    /// overwrites or removes what others put there. Nothing warns you. If several tools swap one method, take the
-    /// swaps back in reverse order.
+    /// Make that list before any other change to the same methods or classes. Later it may be refused: a class can't
+    /// be taken away while a class is below it. Or it is accepted, and overwrites or removes what others put there.
+    /// Nothing warns you. If several tools swap one method, take the swaps back in reverse order.
     pub fn change_all_with_undo(&mut self, changes: &[Change]) -> Result<Vec<Change>, Refused> {
         let rows: Vec<sys::msg_change> = changes.iter().map(|it| it.row()).collect();
         let mut undo = Vec::new();
@@ -254,8 +255,8 @@ impl<'r> Locked<'r> {
         Ok(undo[..undone].iter().filter_map(Change::of_row).collect())
     }
 
-    /// Which lookups [`change_all`](Locked::change_all) would alter, without making the changes: those of these class
-    /// references and no others. It takes memory for all class numbers.
+    /// Which lookups [`change_all`](Locked::change_all) may alter, without making the changes: those of the class
+    /// references that are returned. All others stay as they are. It takes memory for all class numbers.
     pub fn reach(&mut self, changes: &[Change]) -> Result<Vec<ClassRef>, Refused> {
         let rows: Vec<sys::msg_change> = changes.iter().map(|it| it.row()).collect();
         let classes = self.class_count().map_err(|fault| Refused::of(fault, 0))?;
@@ -317,7 +318,9 @@ impl<'r> Locked<'r> {
     }
 
     /// Returns a count of changes: as many as every open sender had seen when it rested last, or was opened; all if
-    /// none is open. Code that the first so many changes took out can be freed.
+    /// none is open. Code that the first so many changes took out can be freed. See to it that no later change puts it
+    /// back. No thread may call what [`lookup`](Locked::lookup) or [`methods`](Locked::methods) returned before, since
+    /// that isn't counted, or what [`recall_since`](Sender::recall_since) returns of fewer changes.
     pub fn seen_by_all(&mut self) -> Result<u64, Fault> {
         let mut count = 0;
         Fault::of(unsafe { sys::msg_seen_by_all(&mut self.handle.0, &mut count) })?;

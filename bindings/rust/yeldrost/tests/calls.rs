@@ -247,7 +247,7 @@ fn a_refused_list_changes_nothing() {
     let answer = runtime.lock().change_all(&changes).err();
     assert_eq!(refused(Fault::NoSuchClass, Some(1)), answer);
     assert_eq!(
-        "change 1: no such class, or it isn't made",
+        "place 1: no such class, or it isn't made",
         answer.unwrap().to_string()
     );
     assert_eq!(Ok(4), runtime.lock().change_count());
