@@ -54,9 +54,9 @@ impl HostedSender {
         }
     }
 
-    /// The stamp of a class, or of its metaclass: of the changes that the sender has then seen, none
-    /// after that many has affected it. So a lookup finds what was noted of it after at least that
-    /// many changes. The call needs no lock.
+    /// The stamp of a class, or of its metaclass: of the changes that the sender has then seen,
+    /// none after that many has affected it. So a lookup finds what was noted of it after at least
+    /// that many changes. The call needs no lock.
     pub fn stamp(&mut self, class: u32, meta: bool) -> Result<u64, AskFault>
         ensures arena { self.new.arena ≡ self.old.arena }
         ensures begins { BeginsWith self.new.seen.front self.old.seen.front }

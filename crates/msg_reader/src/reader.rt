@@ -116,8 +116,8 @@ impl Reader {
         self.prober.published(arena)
     }
 
-    /// The stamp of a class reference: of the changes that the reader has then seen, none after that
-    /// many has affected it. It loads one shared word.
+    /// The stamp of a class reference: of the changes that the reader has then seen, none after
+    /// that many has affected it. It loads one shared word.
     #[inline(always)]
     pub fn stamp(&mut self, arena: &Arena, class: ClassRef) -> u64
         requires reader { IsSenderOf arena.now self.old }
@@ -132,8 +132,8 @@ impl Reader {
     }
 
     /// Returns what was noted of a lookup since the stamp of the class reference. The lookup finds
-    /// it after the changes that the reader has then seen. The stamp is the only shared word that it
-    /// loads.
+    /// it after the changes that the reader has then seen. The stamp is the only shared word that
+    /// the call loads.
     #[inline]
     pub fn recall(
         &mut self,
@@ -159,9 +159,9 @@ impl Reader {
     }
 
     /// Returns the implementation from the notes, or else from the cache, which it then notes. A
-    /// lookup finds it after the changes that the reader has then seen. If a change that affects the
-    /// class reference falls into a probe that hits, the result is dropped. A class reference that
-    /// is closed isn't probed.
+    /// lookup finds it after the changes that the reader has then seen. If a change that affects
+    /// the class reference falls into a probe that hits, the result is dropped. A class reference
+    /// that is closed isn't probed.
     #[inline(always)]
     pub fn try_find(
         &mut self,
