@@ -128,9 +128,10 @@ uint32_t msg_process_seen_by_all(uint64_t *changes, uint64_t *thread);
 void msg_process_spare(void);
 
 enum { MSG_WAITS_NOT, MSG_WAITS, MSG_WAITS_A_WHILE };
-/* The inline calls below go on here if the thread's notes lack the lookup, or
- * weren't asked. `waits` says whether the call waits for the lock. A while is a
- * second at most, and ends if a fork has the lock.
+/* The inline calls below go on here if the first note at the key's place
+ * doesn't tell what is found, or wasn't asked. The second one is asked first.
+ * `waits` says whether the call waits for the lock. A while is a second at
+ * most, and ends if a fork has the lock.
  *
  * Faults: those of msg_process_find, and MSG_LOCK_HELD if the lock isn't to be
  * had so. */
@@ -183,9 +184,9 @@ static inline uint64_t msg_process_stamp(const msg_note *note)
 }
 
 /* msg_process_find of a key, for a host that keeps 2 * number + meta times
- * MSG_KEY_OF_SLOT with each class, and adds msg_key(0, sel) to it. A handler of
- * a signal may come between any two of the loads, and find: then `turns` is
- * another after them.
+ * MSG_KEY_OF_SLOT with each class, and adds msg_key(0, sel) to it. The first
+ * note at the key's place is asked inline. A handler of a signal may come
+ * between any two of the loads, and find: then `turns` is another after them.
  *
  * Faults: those of msg_process_find. */
 static inline uint32_t msg_process_find_key(uint64_t key, uint32_t *imp)

@@ -88,16 +88,19 @@ extern "C" {
 /* What a sender has noted of one lookup. `seal` is the lookup's key (msg_key)
  * less what msg_said says of it; 0 is no note. `stamp`: how many bytes after
  * the first of the shared words (msg_words) the stamp of its class lies; of no
- * note it is 0, which is the count of changes. */
+ * note it is 0, which is the count of changes. `parity`, 0 or 1, is the same
+ * in both notes of a place where the second one is the newer. */
 typedef struct {
     uint64_t seal;
     uint64_t count;
     uint32_t imp;
-    uint32_t spare;
+    uint32_t parity;
     uint64_t stamp;
 } msg_note;
 
-/* How many notes a sender has, in its handle: 128 KiB. */
+/* How many places a sender has for notes, each of two: a first and a second
+ * one. A lookup has one place. If both notes there are of others, the older one
+ * is put out. No note is moved. All are in the handle, which has 256 KiB. */
 enum { MSG_NOTES = 4096 };
 
 /* Handles. A sender is for one thread. Align an array of them to 64 bytes by
@@ -111,6 +114,7 @@ typedef struct {
     void *at;
     bool open;
     msg_note notes[MSG_NOTES];
+    msg_note second_notes[MSG_NOTES];
 } msg_sender;
 typedef struct {
     void *at;
@@ -118,7 +122,7 @@ typedef struct {
 } msg_texts;
 /* clang-format off */
 #define MSG_RUNTIME_INIT {0, 0}
-#define MSG_SENDER_INIT {0, 0, {{0, 0, 0, 0, 0}}}
+#define MSG_SENDER_INIT {0, 0, {{0, 0, 0, 0, 0}}, {{0, 0, 0, 0, 0}}}
 #define MSG_TEXTS_INIT {0, 0}
 /* clang-format on */
 
@@ -490,7 +494,8 @@ size_t msg_sender_size(void);
  * msg_find, which notes what it finds.
  *
  * Since the stamp of the class (msg_stamp) it is what a lookup finds now:
- * msg_recall_key does both, inline, and is the short way of a send.
+ * msg_recall_key does both, inline, of the first note alone, and is the short
+ * way of a send.
  *
  * Cost: it loads from the handle alone and writes nothing. */
 size_t msg_recall(const msg_sender *sender, size_t slot, uint32_t sel,
@@ -499,8 +504,8 @@ size_t msg_recall(const msg_sender *sender, size_t slot, uint32_t sel,
 /* What is cached (cache_getImp): what the sender has noted, else what the
  * shared cache has. `imp` is set to the lookup after the changes that the
  * sender has then seen, which are no fewer than before. What it has noted it
- * returns until a change affects the class, or another lookup has taken the
- * place of the note.
+ * returns until a change affects the class, or two other lookups of its place
+ * have been noted.
  *
  * Faults: MSG_NO_CLASS, MSG_NO_SELECTOR, and MSG_MISSED if neither has it.
  * Cost: a few loads, and no lock. */
@@ -606,7 +611,8 @@ uint32_t msg_type_member(const uint8_t *text, size_t length, uint64_t before,
 #define MSG_IS_SO(what) struct msg_is_so
 #endif
 MSG_IS_SO(sizeof(msg_note) == 32);
-MSG_IS_SO(sizeof(msg_sender) == 16 + 32 * MSG_NOTES);
+MSG_IS_SO(offsetof(msg_note, stamp) == 24);
+MSG_IS_SO(sizeof(msg_sender) == 16 + 64 * MSG_NOTES);
 MSG_IS_SO(sizeof(msg_config) == 44);
 MSG_IS_SO(sizeof(msg_change) == 32);
 MSG_IS_SO(offsetof(msg_change, number) == 4 && offsetof(msg_change, sel) == 12);
@@ -703,21 +709,20 @@ static inline const char *msg_fault_text(uint32_t fault)
 #define MSG_TEST(what) assert(what)
 /* That the stamp of a key's note is msg_stamp, unless it is another by now. It
  * isn't closed; so where it was closed meanwhile, it opens by a later count. */
-#define MSG_TEST_STAMP(sender, words, key, stamp) \
+#define MSG_TEST_STAMP(sender, words, note, key, stamp) \
     do { \
         uint64_t msg_told = stamp; \
         msg_stamp((msg_sender *)(sender), MSG_SLOT_OF(key) / 2, \
                   MSG_SLOT_OF(key) % 2, &msg_told); \
-        MSG_TEST(msg_told == (stamp) || \
-                 msg_stamp_of(words, MSG_NOTE_OF(sender, key)) != (stamp)); \
+        MSG_TEST(msg_told == (stamp) || msg_stamp_of(words, note) != (stamp)); \
     } while (0)
 #else
 #define MSG_TEST(what) ((void)0)
-#define MSG_TEST_STAMP(sender, words, key, stamp) ((void)0)
+#define MSG_TEST_STAMP(sender, words, note, key, stamp) ((void)0)
 #endif
 
 /* Of slots below this keys are one to one, as they are of any class. And of a
- * key its slot, its selector, and where its note lies. */
+ * key its slot, its selector, and where its two notes lie. */
 #define MSG_SLOTS 67108864 /* 2^26 */
 /* 2^36 + 2^4 * 1,449: more than all selectors take, and 1,449 notes on */
 #define MSG_KEY_OF_SLOT UINT64_C(68719499920)
@@ -727,9 +732,12 @@ static inline const char *msg_fault_text(uint32_t fault)
 #define MSG_NOTE_OF(sender, key) \
     ((const msg_note *)(const void *)((const char *)(sender)->notes + \
                                       2 * (uint16_t)(key)))
+#define MSG_SECOND_NOTE_OF(sender, key) \
+    ((const msg_note *)(const void *)((const char *)(sender)->second_notes + \
+                                      2 * (uint16_t)(key)))
 
 /* The key of a lookup as one word, of a slot below MSG_SLOTS: its low 16 bits
- * are half of where its note lies. It adds up: a host may keep slot *
+ * are half of where its notes lie. It adds up: a host may keep slot *
  * MSG_KEY_OF_SLOT with each class and msg_key(0, sel) with each selector, and
  * add the two. No other sum is a key. */
 static inline uint64_t msg_key(uint32_t slot, uint32_t sel)
@@ -740,7 +748,7 @@ static inline uint64_t msg_key(uint32_t slot, uint32_t sel)
 
 #define MSG_SAID_LONG 65534
 #define MSG_SAID_NONE 65535
-/* What the note at the one place of a key says of its lookup: below
+/* What a note at the place of a key says of its lookup: below
  * MSG_SAID_LONG the implementation's number, which is then not 0;
  * MSG_SAID_LONG, that there is one, whose number is longer: the note's `imp`;
  * MSG_SAID_NONE, that there is no method. Anything else: nothing. One load has
@@ -767,12 +775,14 @@ static inline uint64_t msg_stamp_of(const uint64_t *words, const msg_note *note)
     return __atomic_load_n((const uint64_t *)stamp, __ATOMIC_SEQ_CST);
 }
 
-/* msg_stamp and msg_recall without a call, for where each instruction counts:
- * the implementation's number that a lookup of the key finds now, or 0 where it
- * finds no method, or nothing is noted of it. So it is of key 0, which is of no
- * lookup. `words` are the runtime's (msg_words). Trusted: this code, and that
- * the stamp lies where the words and the note say. With MSG_CHECK each answer
- * is compared with the proved msg_recall, and its stamp with msg_stamp. */
+/* msg_stamp and msg_recall without a call, for where each instruction counts,
+ * of the first note at the key's place alone: the implementation's number that
+ * a lookup of the key finds now, or 0 where that note doesn't say one. Then the
+ * second note may say it, or it may say that there is no method. 0 is also for
+ * key 0, which is of no lookup. `words` are the runtime's (msg_words). Trusted:
+ * this code, and that the stamp lies where the words and the note say. With
+ * MSG_CHECK each number is compared with the proved msg_recall, and its stamp
+ * with msg_stamp. */
 static inline uint32_t msg_recall_key(const msg_sender *sender,
                                       const uint64_t *words, uint64_t key)
 {
@@ -782,23 +792,23 @@ static inline uint32_t msg_recall_key(const msg_sender *sender,
     uint32_t imp = said < MSG_SAID_LONG    ? (uint32_t)said
                    : said == MSG_SAID_LONG ? note->imp
                                            : 0;
-    MSG_TEST(imp == (uint32_t)msg_recall(sender, MSG_SLOT_OF(key),
-                                         MSG_SEL_OF(key), stamp));
-    if (imp) MSG_TEST_STAMP(sender, words, key, stamp);
+    MSG_TEST(!imp || imp == msg_recall(sender, MSG_SLOT_OF(key),
+                                       MSG_SEL_OF(key), stamp));
+    if (imp) MSG_TEST_STAMP(sender, words, note, key, stamp);
     return imp;
 }
 
-/* Whether it is noted that there is no method: then msg_recall returns
- * MSG_NOTED_NONE. */
+/* Whether the first note at the key's place says that there is no method: then
+ * msg_recall returns MSG_NOTED_NONE. If it doesn't, the second note may. */
 static inline bool msg_recall_none_key(const msg_sender *sender,
                                        const uint64_t *words, uint64_t key)
 {
     const msg_note *note = MSG_NOTE_OF(sender, key);
     uint64_t stamp = msg_stamp_of(words, note);
     bool is_none = note->count >= stamp && msg_said(note, key) == MSG_SAID_NONE;
-    MSG_TEST(is_none == (msg_recall(sender, MSG_SLOT_OF(key), MSG_SEL_OF(key),
-                                    stamp) == MSG_NOTED_NONE));
-    if (is_none) MSG_TEST_STAMP(sender, words, key, stamp);
+    MSG_TEST(!is_none || msg_recall(sender, MSG_SLOT_OF(key), MSG_SEL_OF(key),
+                                    stamp) == MSG_NOTED_NONE);
+    if (is_none) MSG_TEST_STAMP(sender, words, note, key, stamp);
     return is_none;
 }
 
@@ -809,8 +819,8 @@ static inline uint32_t msg_slot(uint32_t number, bool meta)
     return number < MSG_SLOTS / 2 ? 2 * number + meta : MSG_SLOTS;
 }
 
-/* The same of a slot and a selector. Of slots from MSG_SLOTS on nothing is
- * noted. */
+/* msg_recall_key of a slot and a selector. Of slots from MSG_SLOTS on nothing
+ * is noted. */
 static inline uint32_t msg_recall_inline(const msg_sender *sender,
                                          const uint64_t *words, uint32_t slot,
                                          uint32_t sel)

@@ -447,12 +447,13 @@ public:
     {
         return own ? static_cast<std::uint32_t>(msg_recall(own.get(), of.slot(), selector, since)) : 0;
     }
-    // What is noted since the stamp of a key_of's class, without a call.
+    // What the first note at the place of a key_of says since the stamp of its class, without a call: 0 if it says
+    // nothing, or for forwarding. Then the second one may say it, which find looks at, too.
     std::uint32_t recall_key(std::uint64_t key) const
     {
         return is_open() ? msg_recall_key(own.get(), at->words, key) : 0;
     }
-    // Whether it is noted since then that no method is found.
+    // Whether that note says that no method is found.
     bool recalls_none(class_ref of, std::uint32_t selector) const
     {
         return is_open() && of.has_slot() && msg_recall_none_key(own.get(), at->words, key_of(of, selector));

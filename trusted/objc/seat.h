@@ -1,4 +1,5 @@
-/* The way of a send that hits, without the lock: what the thread's own sender has noted. Trusted:
+/* The way of a send that hits, without the lock: what the thread's own sender has noted. Another
+ * send goes on by msg_process_find_slowly, which looks at the place's second note first. Trusted:
  * that a note is of its key and as new as its stamp, in whatever order other threads and handlers
  * of signals come between. */
 #ifndef MSG_OBJC_SEAT_H
@@ -24,11 +25,11 @@ static inline IMP shim_function(uint32_t imp)
                     [word] "i"(offsetof(msg_sender, notes) + offsetof(msg_note, field))
 /* clang-format on */
 
-/* What the note at the one place of a class and a selector says (msg_said), by all changes that had
- * returned. First it is seen that the note isn't older than the stamp of its class; then one load
- * has the lookup and the number. So a handler of a signal that notes another there comes before
- * both or after both; or what is said was found by it, just now (msg_stamp_of). Until a class was
- * initialized its key is 0, and the sum is the key of class number 0, which isn't made. */
+/* What the first note at the place of a class and a selector says (msg_said), by all changes that
+ * had returned. First it is seen that the note isn't older than the stamp of its class; then one
+ * load has the lookup and the number. So a handler of a signal that notes another there comes
+ * before both or after both; or what is said was found by it, just now (msg_stamp_of). Until a
+ * class was initialized its key is 0, and the sum is that of class number 0, which isn't made. */
 static inline uint64_t shim_said_at(Class class_, SEL sel)
 {
     const msg_sender *sender = __atomic_load_n(&msg_process_own.sender, __ATOMIC_RELAXED);
@@ -58,8 +59,9 @@ static inline uint64_t shim_said_at(Class class_, SEL sel)
     return said;
 }
 
-/* All of a note that says just this, for what is another word than its seal: a handler that found
- * something in between raised `turns`. False where it is another note by now, or an old one. */
+/* All of the note that says just this, the first or the second one, for what is another word than
+ * its seal: a handler that found something in between raised `turns`. False where it is another
+ * note by now, or an old one. */
 static __attribute__((noinline, unused)) bool shim_note_of(uint64_t said, Class class_, SEL sel,
                                                            msg_note *all)
 {
@@ -68,13 +70,14 @@ static __attribute__((noinline, unused)) bool shim_note_of(uint64_t said, Class 
     const msg_sender *sender = __atomic_load_n(&msg_process_own.sender, __ATOMIC_RELAXED);
     uint64_t key = __atomic_load_n(&class_->key, __ATOMIC_ACQUIRE) + sel->name.key;
     const msg_note *note = MSG_NOTE_OF(sender, key);
+    if (msg_said(note, key) > MSG_SAID_NONE) note = MSG_SECOND_NOTE_OF(sender, key);
     bool is_of = note->count >= msg_process_stamp(note) && msg_said(note, key) == said;
     *all = *note;
     atomic_signal_fence(memory_order_seq_cst);
     return is_of && __atomic_load_n(&msg_process_own.turns, __ATOMIC_RELAXED) == turns;
 }
 
-/* Whether a note says what is found: the method's number, or 0 where there is none. */
+/* Whether the first note says what is found: the method's number, or 0 where there is none. */
 static inline bool shim_note(Class class_, SEL sel, uint32_t *number)
 {
     msg_note note;

@@ -59,8 +59,8 @@ static void ensure_initialized(Class class_)
         initialize(plain);
 }
 
-/* The function that is noted, or NULL, which is number 0's, where it is noted that the lookup finds
- * nothing. */
+/* The function that the first note says, or NULL, which is number 0's, where it says that the
+ * lookup finds nothing. */
 static inline bool noted(Class class_, SEL sel, IMP *imp)
 {
     uint32_t number;
@@ -119,7 +119,7 @@ static inline bool resolve(Class class_, SEL sel)
     Class plain = plain_class(class_);
     SEL asked = &shim_own[class_->record->meta ? RESOLVE_CLASS : RESOLVE_INSTANCE];
     if (!noted(plain->isa, asked, &imp)) imp = find(plain->isa, asked);
-    else if (!imp) keep_unresolved(class_->record, plain->isa, asked);
+    if (!imp) keep_unresolved(class_->record, plain->isa, asked);
     return __builtin_expect(imp != NULL, 0) &&
            ((BOOL(*)(id, SEL, SEL))(void (*)(void))imp)((id)plain, asked, sel);
 }
@@ -135,6 +135,7 @@ bool shim_resolve(Class class_, SEL sel)
 /* Where it is noted that nothing is found, or was found to be so: NULL is forwarding. */
 static __attribute__((noinline)) IMP find_resolved(Class class_, SEL sel)
 {
+    if (has_no_resolver(class_->record)) return NULL;
     return resolve(class_, sel) ? shim_look(class_, sel) : NULL;
 }
 
@@ -148,7 +149,7 @@ static __attribute__((noinline, cold)) IMP find_first(Class class_, SEL sel)
     return imp ? imp : find_resolved(class_, sel);
 }
 
-/* Where nothing is noted. A class that was initialized has its part of keys. */
+/* Where the first note says nothing. A class that was initialized has its part of keys. */
 static __attribute__((noinline)) IMP find_from(id receiver, SEL sel, Class class_)
 {
     uint64_t of_class = LOAD(class_->key);
@@ -159,7 +160,7 @@ static __attribute__((noinline)) IMP find_from(id receiver, SEL sel, Class class
     return __builtin_expect(imp != NULL, 1) ? imp : shim_forward(receiver, sel);
 }
 
-/* Where a note says that there is no method, or has a long number. */
+/* Where the first note says that there is no method, or has a long number. */
 static __attribute__((noinline)) IMP find_long(id receiver, SEL sel, Class class_)
 {
     IMP imp;

@@ -379,6 +379,14 @@ static struct seat *seat_by(unsigned waits)
     return own && is_away ? come_back(waits) : sit_down(waits);
 }
 
+/* Of a key that is noted. */
+static inline __attribute__((unused)) const msg_note *note_of(const msg_sender *sender,
+                                                              uint64_t key)
+{
+    const msg_note *first = MSG_NOTE_OF(sender, key);
+    return msg_said(first, key) <= MSG_SAID_NONE ? first : MSG_SECOND_NOTE_OF(sender, key);
+}
+
 static inline uint32_t fill(struct seat *seat, uint64_t key, uint32_t *imp)
 {
     if (!seat) {
@@ -387,8 +395,8 @@ static inline uint32_t fill(struct seat *seat, uint64_t key, uint32_t *imp)
     }
     uint32_t fault = msg_fill(&runtime, &seat->sender, PARTS_OF(key), imp);
     if (!fault)
-        MSG_TEST_STAMP(&seat->sender, msg_process_words.at, key,
-                       msg_process_stamp(MSG_NOTE_OF(&seat->sender, key)));
+        MSG_TEST_STAMP(&seat->sender, msg_process_words.at, note_of(&seat->sender, key), key,
+                       msg_process_stamp(note_of(&seat->sender, key)));
     return fault;
 }
 
@@ -429,7 +437,30 @@ static __attribute__((noinline)) uint32_t find_by_seat(struct seat *seat, uint64
     return find_by(seat, &(struct asked){.key = key, .imps = imp}, waits);
 }
 
-uint32_t msg_process_find_slowly(uint64_t key, unsigned waits, uint32_t *imp)
+/* Whether the second note says what is found, by the loads of msg_process_find_key. */
+static inline bool second_says(uint64_t key, uint32_t *imp)
+{
+    uint64_t turns = __atomic_load_n(&msg_process_own.turns, __ATOMIC_RELAXED);
+    atomic_signal_fence(memory_order_seq_cst);
+    const msg_sender *sender = __atomic_load_n(&msg_process_own.sender, __ATOMIC_RELAXED);
+    const msg_note *note = MSG_SECOND_NOTE_OF(sender, key);
+    uint64_t stamp = msg_process_stamp(note);
+    uint64_t said = note->count >= stamp ? msg_said(note, key) : 0;
+    uint32_t found = (uint32_t)said;
+    if (__builtin_expect(!said || said >= MSG_SAID_LONG, 0)) {
+        if (!said || said > MSG_SAID_NONE) return false; /* 0 is of no lookup */
+        found = said == MSG_SAID_LONG ? note->imp : 0;
+    }
+    atomic_signal_fence(memory_order_seq_cst);
+    if (__atomic_load_n(&msg_process_own.turns, __ATOMIC_RELAXED) != turns) return false;
+    MSG_TEST(msg_recall(sender, MSG_SLOT_OF(key), MSG_SEL_OF(key), stamp) ==
+                 (found ? found : MSG_NOTED_NONE) ||
+             __atomic_load_n(&msg_process_own.turns, __ATOMIC_RELAXED) != turns);
+    *imp = found;
+    return true;
+}
+
+static __attribute__((noinline)) uint32_t find_by_call(uint64_t key, unsigned waits, uint32_t *imp)
 {
     const msg_sender *sender = __atomic_load_n(&msg_process_own.sender, __ATOMIC_RELAXED);
     if (__builtin_expect(sender == &nobody, 0)) return find_by_seat(NULL, key, waits, imp);
@@ -438,6 +469,11 @@ uint32_t msg_process_find_slowly(uint64_t key, unsigned waits, uint32_t *imp)
     if (__builtin_expect(answer == MSG_MISSED, 0)) return find_by_seat(seat, key, waits, imp);
     show(seat);
     return answer;
+}
+
+uint32_t msg_process_find_slowly(uint64_t key, unsigned waits, uint32_t *imp)
+{
+    return second_says(key, imp) ? (uint32_t)MSG_DONE : find_by_call(key, waits, imp);
 }
 
 uint32_t msg_process_find_all(const msg_lookup_row *lookups, size_t count, uint32_t *imps,

@@ -11,7 +11,7 @@ class msg_note(c.Structure):
         ("seal", c.c_uint64),
         ("count", c.c_uint64),
         ("imp", c.c_uint32),
-        ("spare", c.c_uint32),
+        ("parity", c.c_uint32),
         ("stamp", c.c_uint64),
     ]
 
@@ -21,7 +21,12 @@ class msg_runtime(c.Structure):
 
 
 class msg_sender(c.Structure):
-    _fields_ = [("at", c.c_void_p), ("open", c.c_bool), ("notes", msg_note * NOTES)]
+    _fields_ = [
+        ("at", c.c_void_p),
+        ("open", c.c_bool),
+        ("notes", msg_note * NOTES),
+        ("second_notes", msg_note * NOTES),
+    ]
 
 
 class msg_texts(c.Structure):

@@ -2,4 +2,5 @@ mod KeyLemmas
 pub mod NoteLemmas
 pub mod ReaderLemmas
 pub mod SeveralLemmas
+mod SpareLemmas
 mod StampedLemmas

@@ -1,6 +1,7 @@
 -- Several lookups that are answered as one.
 use Rattle.std.proofs.Common.{◌≡◌, ◌<◌, ◌≤◌, ◌+◌, ℕ, suc, false, List, [], ◌∷◌, ◌++◌, length, map, take, Some, None, inl, inr, sym, subst, ap, ap₂, ◌∙◌, arith, append_assoc}
 use Rattle.std.specs.Prelude.{◌⊎◌, ◌≢◌, ◌^◌, if◌then◌else◌, nat_lt, Option, option_and_then, unwrap_or, IsSome, is_some, slice_get, slice_set}
+use Rattle.std.specs.Option.{option_or}
 use Rattle.std.proofs.Math.Nat.{eq-or-lt_of_le}
 use Rattle.std.proofs.Math.Seq.{take-suc}
 use Rattle.std.proofs.lemmas.List.{get_or-set_other, get_or-set_same, length-set, length-take-le, map-append, take_all, take_more_set}
@@ -14,7 +15,7 @@ use Rattle.msg_tables.proofs.BeginsLemmas.{begins_same}
 use Rattle.msg_model.specs.State.{first}
 use Rattle.msg_cache.proofs.PastLemmas.{begins_first, first_begins}
 use Rattle.msg_cache.specs.declared.view.SenderView.{SenderView}
-use Rattle.msg_reader.specs.Kept.{LoadsMore}
+use Rattle.msg_reader.specs.Kept.{LoadsMore, StayAt}
 use Rattle.msg_reader.specs.Notes.{found_by, recalled_of}
 use Rattle.msg_reader.specs.Several.{AreFoundAfter, AreFoundAt, AreFoundTogether, IsAmong, IsNotedAmong, IsNotedOrAt, IsOfLast, LackOne, LacksIt, LoadsAmong, found_of, lies_at}
 use Rattle.msg_reader.specs.declared.lookup.Lookup.{Lookup}
@@ -101,10 +102,15 @@ same_both p h b d = begins_same p h b (omega (arith, as_long p h b, as_long h p 
 
 -- ---- what is noted
 
--- what lies at its place is all that notes have of a lookup
-pub recalled_there : (m n : Notes) (since : ℕ) (k : Lookup) → slice_get n.notes (lies_at k) ≡ slice_get m.notes (lies_at k) → recalled_of n since k.class k.sel ≡ recalled_of m since k.class k.sel
-recalled_there m n since k same =
-    ap (λ (o : Option Note). if nat_lt (slot_of k.class) (2 ^ 26) then option_and_then (λ d. found_by d since (slot_of k.class) (selector_number k.sel)) o else None) same
+-- the two notes at its place are all that notes have of a lookup
+pub recalled_there : (m n : Notes) (since : ℕ) (k : Lookup) → StayAt (lies_at k) m n → recalled_of n since k.class k.sel ≡ recalled_of m since k.class k.sel
+recalled_there m n since k stay =
+    let found = λ (o : Option Note). option_and_then (λ d. found_by d since (slot_of k.class) (selector_number k.sel)) o in
+    ap₂ (λ (o p : Option Note). if nat_lt (slot_of k.class) (2 ^ 26) then option_or (found o) (found p) else None) stay.0 stay.1
+
+-- what stays, stays on
+pub stay_on : (m n o : Notes) (place : ℕ) → StayAt place m n → StayAt place n o → StayAt place m o
+stay_on m n o place before after = (after.0 ∙ before.0, after.1 ∙ before.1)
 
 -- one answer is put at its place, and the others stay
 put_there : (imps : List ℕ) (place i j : ℕ) → slice_get (slice_set imps place i) place ≡ Some j → i ≡ j
@@ -134,7 +140,7 @@ noted_next was is ks imps place k i at one on all p j x lt here has last = split
         on j x (last place k less (omega arith) at) was-so
 
 -- what was noted is, where the note of the next lookup lies elsewhere
-pub noted_on : (m n : Notes) (u v w : SenderView) (k j : Lookup) (x : ℕ) → ((other : ℕ) → other ≢ lies_at k → slice_get n.notes other ≡ slice_get m.notes other) → LoadsMore v w → lies_at j ≢ lies_at k
+pub noted_on : (m n : Notes) (u v w : SenderView) (k j : Lookup) (x : ℕ) → ((other : ℕ) → other ≢ lies_at k → StayAt other m n) → LoadsMore v w → lies_at j ≢ lies_at k
     → IsNotedAmong m u v j x → IsNotedAmong n u w j x
 noted_on m n u v w k j x others after apart (since, loaded, kept) =
     (since, among_before j.class since u v w loaded after, λ low. recalled_there m n since j (others (lies_at j) apart) ∙ kept low)
@@ -145,7 +151,7 @@ noted_one n u v w k i before (since, loaded, kept) = (since, among_later k.class
 
 -- so it is behind the lock
 module _ (h : History) (m n : Notes) (u v w : SenderView) where
-  pub noted_or_on : (k j : Lookup) (x : ℕ) → ((other : ℕ) → other ≢ lies_at k → slice_get n.notes other ≡ slice_get m.notes other) → LoadsMore v w → lies_at j ≢ lies_at k
+  pub noted_or_on : (k j : Lookup) (x : ℕ) → ((other : ℕ) → other ≢ lies_at k → StayAt other m n) → LoadsMore v w → lies_at j ≢ lies_at k
       → IsNotedOrAt h m u v j x → IsNotedOrAt h n u w j x
   noted_or_on k j x others after apart (inl noted) = inl (noted_on m n u v w k j x others after apart noted)
   noted_or_on k j x others after apart (inr noted) = inr (λ low. recalled_there m n (length h.changes) j (others (lies_at j) apart) ∙ noted low)

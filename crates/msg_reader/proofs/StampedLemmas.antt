@@ -8,7 +8,8 @@ use Rattle.msg_cache.specs.Layout.{stamp_at, stamps}
 use Rattle.msg_reader.specs.declared.note.Note.{Note}
 use Rattle.msg_reader.specs.declared.notes.Notes.{Notes}
 use Rattle.msg_reader.specs.Key.{IsSealOf, key_of, mark_of}
-use Rattle.msg_reader.specs.Notes.{AreBlank, AreStamped, IsBlank, IsStamped}
+use Rattle.msg_reader.specs.Blank.{IsBlank}
+use Rattle.msg_reader.specs.Notes.{AreBlank, AreStamped, IsStamped}
 use Rattle.msg_reader.proofs.KeyLemmas.{keys_differ, mark_few}
 
 -- a blank note is of nobody
@@ -20,7 +21,7 @@ blank_one z n none = record {
 }
 
 pub blank_stamped : (z : Layout) (m : Notes) → AreBlank m → AreStamped z m
-blank_stamped z m b = λ k d inside. blank_one z _ (b.notes k d inside)
+blank_stamped z m b = (λ k d inside. blank_one z _ (b.first k d inside), λ k d inside. blank_one z _ (b.second k d inside))
 
 -- of one seal there is one class reference, and the note says where its stamp lies
 pub stamped_by : (z : Layout) (n : Note) (c : ClassRef) (slot sel imp : ℕ) → c.class < z.classes → sel < 2 ^ 32 → slot ≡ slot_of c → n.imp ≡ imp → IsSealOf n.seal slot sel imp → n.stamp ≡ 8 * stamp_at z c → IsStamped z n

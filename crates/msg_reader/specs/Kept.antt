@@ -1,5 +1,5 @@
 -- What stays noted, and what is recalled by a stamp.
-use Rattle.std.specs.Prelude.{◌≡◌, ◌≢◌, ◌<◌, ◌⊎◌, ◌^◌, ℕ, List, ◌∷◌, ◌++◌, length, Option, Some, IfSome, slice_get}
+use Rattle.std.specs.Prelude.{◌≡◌, ◌≢◌, ◌<◌, ◌⊎◌, ◌^◌, ℕ, List, ◌∷◌, ◌++◌, length, Option, Some, IfSome, slice_get, true}
 use Rattle.msg_names.specs.ClassRef.{slot_of}
 use Rattle.msg_names.specs.Number.{selector_number, imp_number}
 use Rattle.msg_names.specs.declared.value.ClassRef.{ClassRef}
@@ -9,18 +9,32 @@ use Rattle.msg_cache.specs.Plays.{stamped_to}
 use Rattle.msg_cache.specs.Record.{MadeNoProbe, Misses}
 use Rattle.msg_cache.specs.Views.{ArenaView, layout}
 use Rattle.msg_cache.specs.declared.view.SenderView.{SenderView}
-use Rattle.msg_reader.specs.Key.{place_of}
-use Rattle.msg_reader.specs.Notes.{recalled}
+use Rattle.msg_reader.specs.Key.{key_of, place_of}
+use Rattle.msg_reader.specs.Notes.{LiesThere, is_free_for, recalled}
+use Rattle.msg_reader.specs.declared.note.Note.{Note}
 use Rattle.msg_reader.specs.declared.notes.Notes.{Notes}
 
--- at each place but that of the lookup of a class reference and a selector, notes have what they
--- had
-abbrev pub HaveOthersOf : ClassRef → ℕ → Notes → Notes → Type 0
-HaveOthersOf c sel old new = (place : ℕ) → place ≢ place_of (slot_of c) sel → slice_get new.notes place ≡ slice_get old.notes place
+-- at a place, notes have the two that they had
+abbrev pub StayAt : ℕ → Notes → Notes → Type 0
+StayAt place old new = (slice_get new.first place ≡ slice_get old.first place) × (slice_get new.second place ≡ slice_get old.second place)
 
--- the same for a selector of the program
+-- so they have at each place but that of the lookup of a class reference and a selector
+abbrev pub HaveOthersOf : ClassRef → ℕ → Notes → Notes → Type 0
+HaveOthersOf c sel old new = (place : ℕ) → place ≢ place_of (slot_of c) sel → StayAt place old new
+
+-- Where one of the two notes at the lookup's place is blank or of that lookup, notes have what they
+-- had of each other one.
+abbrev pub SpareOthersOf : ClassRef → ℕ → Notes → Notes → Type 0
+SpareOthersOf c sel old new = (n : Note) → LiesThere old (place_of (slot_of c) sel) n → is_free_for n (slot_of c) sel ≡ true
+    → (since slot other : ℕ) → key_of slot other ≢ key_of (slot_of c) sel → recalled new since slot other ≡ recalled old since slot other
+
+-- both for a selector of the program
 abbrev pub KeepOthers : Notes → Notes → ClassRef → Selector → Type 0
 KeepOthers old new c s = HaveOthersOf c (selector_number s) old new
+
+-- where a note at its place is free, those of other lookups are spared
+abbrev pub SpareOthers : Notes → Notes → ClassRef → Selector → Type 0
+SpareOthers old new c s = SpareOthersOf c (selector_number s) old new
 
 -- ---- what a sender's view v and its next one w say of stamps
 

@@ -1,3 +1,4 @@
+pub mod Blank
 pub mod Found
 pub mod Key
 pub mod Kept

@@ -1,10 +1,12 @@
 -- What is noted of lookups.
-use Rattle.std.specs.Prelude.{◌≡◌, ◌≢◌, ◌<◌, ◌≤◌, ◌+◌, ◌*◌, ◌%◌, ◌^◌, ◌==◌, ◌&&◌, ℕ, Option, Some, None, if◌then◌else◌, length, nat_le, nat_lt, option_and_then, slice_get, get_or, All}
+use Rattle.std.specs.Prelude.{◌≡◌, ◌≢◌, ◌<◌, ◌≤◌, ◌+◌, ◌*◌, ◌%◌, ◌^◌, ◌==◌, ◌&&◌, ◌||◌, ◌⊎◌, ℕ, Bool, List, Option, Some, None, if◌then◌else◌, length, nat_le, nat_lt, option_and_then, slice_get, get_or, All}
+use Rattle.std.specs.Option.{option_or}
 use Rattle.msg_names.specs.ClassRef.{slot_of}
 use Rattle.msg_names.specs.Number.{selector_number, imp_number}
 use Rattle.msg_names.specs.declared.value.ClassRef.{ClassRef}
 use Rattle.msg_names.specs.declared.value.ImpRef.{ImpRef}
 use Rattle.msg_names.specs.declared.value.Selector.{Selector}
+use Rattle.msg_reader.specs.Blank.{IsBlank}
 use Rattle.msg_reader.specs.Key.{IsSealOf, key_of, mark_of, place_of}
 use Rattle.msg_tables.specs.Origin.{last_imp}
 use Rattle.msg_tables.specs.History.{History, lookup}
@@ -32,20 +34,20 @@ pub record IsNoteOf (h : History) (n : Note) : Type 0 where
 abbrev pub LiesAt : ℕ → Note → Type 0
 LiesAt place n = n.seal ≢ 0 → (n.seal + mark_of n.imp) % 65536 ≡ place * 16
 
--- each of the notes is a note of the history, and lies at its place
-pub record AreNotesOf (h : History) (n : Notes) : Type 0 where
-  pub notes : All (IsNoteOf h) n.notes
-  pub placed : (p : ℕ) (d : Note) → p < length n.notes → LiesAt p (get_or n.notes p d)
+-- each of some notes is a note of the history, and lies at its place
+pub record AreNotesAt (h : History) (ns : List Note) : Type 0 where
+  pub notes : All (IsNoteOf h) ns
+  pub placed : (p : ℕ) (d : Note) → p < length ns → LiesAt p (get_or ns p d)
 
--- A note is blank. It says 0 of its stamp, which is where the count of changes lies.
-pub record IsBlank (n : Note) : Type 0 where
-  pub seal : n.seal ≡ 0
-  pub imp : n.imp ≡ 0
-  pub stamp : n.stamp ≡ 0
+-- so it is with the first notes of all places, and with the second ones
+pub record AreNotesOf (h : History) (n : Notes) : Type 0 where
+  pub first : AreNotesAt h n.first
+  pub second : AreNotesAt h n.second
 
 -- nothing is noted: each note is blank
 pub record AreBlank (n : Notes) : Type 0 where
-  pub notes : All IsBlank n.notes
+  pub first : All IsBlank n.first
+  pub second : All IsBlank n.second
 
 -- A note says where the stamp of the class reference that it is of lies: this number of bytes after
 -- the first word of the table. Whatever it is of, a word of the table lies there.
@@ -56,7 +58,7 @@ pub record IsStamped (z : Layout) (n : Note) : Type 0 where
 
 -- the same for each note
 abbrev pub AreStamped : Layout → Notes → Type 0
-AreStamped z n = All (IsStamped z) n.notes
+AreStamped z n = All (IsStamped z) n.first × All (IsStamped z) n.second
 
 -- and so it stays
 abbrev pub StayStamped : Layout → Notes → Notes → Type 0
@@ -67,9 +69,18 @@ StayStamped z old new = AreStamped z old → AreStamped z new
 abbrev pub found_by : Note → ℕ → ℕ → ℕ → Option ℕ
 found_by n since slot sel = if n.seal + mark_of n.imp == key_of slot sel && nat_le since n.count then Some n.imp else None
 
--- what notes have of a lookup: that which is at its place. Of slots from 2^26 on nothing is noted.
+-- a note is blank or of this lookup
+abbrev pub is_free_for : Note → ℕ → ℕ → Bool
+is_free_for n slot sel = n.seal == 0 || n.seal + mark_of n.imp == key_of slot sel
+
+-- what the first or the second notes have of a lookup, at its place
+abbrev pub found_in : List Note → ℕ → ℕ → ℕ → Option ℕ
+found_in ns since slot sel = option_and_then (λ k. found_by k since slot sel) (slice_get ns (place_of slot sel))
+
+-- what notes have of a lookup: that which the first one at its place says, or else the second. Of
+-- slots from 2^26 on nothing is noted.
 abbrev pub recalled : Notes → ℕ → ℕ → ℕ → Option ℕ
-recalled n since slot sel = if nat_lt slot (2 ^ 26) then option_and_then (λ k. found_by k since slot sel) (slice_get n.notes (place_of slot sel)) else None
+recalled n since slot sel = if nat_lt slot (2 ^ 26) then option_or (found_in n.first since slot sel) (found_in n.second since slot sel) else None
 
 -- what notes of a history have of a lookup at all its changes
 abbrev pub noted_at : Notes → History → ClassRef → ℕ → Option ℕ
@@ -94,9 +105,13 @@ KeysAreOneToOne = (slot sel other next : ℕ) → sel < 2 ^ 32 → next < 2 ^ 32
 abbrev pub SealTells : Note → ℕ → ℕ → Type 0
 SealTells n slot sel = (said : ℕ) → 0 < said → said < 65536 → n.seal + said ≡ key_of slot sel → IsSealOf n.seal slot sel n.imp × (said ≡ mark_of n.imp)
 
+-- this is one of the two notes of a place
+abbrev pub LiesThere : Notes → ℕ → Note → Type 0
+LiesThere n place k = (slice_get n.first place ≡ Some k) ⊎ (slice_get n.second place ≡ Some k)
+
 -- whatever history these are notes of, each seal identifies the lookups that have its place
 abbrev pub SealsTell : Type 0
-SealsTell = (h : History) (n : Notes) (slot sel : ℕ) (k : Note) → AreNotesOf h n → slice_get n.notes (place_of slot sel) ≡ Some k → SealTells k slot sel
+SealsTell = (h : History) (n : Notes) (slot sel : ℕ) (k : Note) → AreNotesOf h n → LiesThere n (place_of slot sel) k → SealTells k slot sel
 
 -- at some point of the history, after this number of changes or more, the lookup found this
 -- implementation

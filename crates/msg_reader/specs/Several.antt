@@ -10,7 +10,7 @@ use Rattle.msg_model.specs.State.{first}
 use Rattle.msg_cache.specs.Views.{ArenaView, IsFoundAt, classes}
 use Rattle.msg_cache.specs.declared.view.SenderView.{SenderView}
 use Rattle.msg_reader.specs.Key.{place_of}
-use Rattle.msg_reader.specs.Kept.{MissesUnlessChanged}
+use Rattle.msg_reader.specs.Kept.{MissesUnlessChanged, StayAt}
 use Rattle.msg_reader.specs.Notes.{IsNoted, recalled_of}
 use Rattle.msg_reader.specs.declared.lookup.Lookup.{Lookup}
 use Rattle.msg_reader.specs.declared.notes.Notes.{Notes}
@@ -75,7 +75,7 @@ lies_at k = place_of (slot_of k.class) (selector_number k.sel)
 
 -- at each place but those of the lookups, notes have what they had
 abbrev pub KeepOthersOfAll : Notes → Notes → List Lookup → Type 0
-KeepOthersOfAll old new ks = (place : ℕ) → ((k : Lookup) → IsAmong ks k → place ≢ lies_at k) → slice_get new.notes place ≡ slice_get old.notes place
+KeepOthersOfAll old new ks = (place : ℕ) → ((k : Lookup) → IsAmong ks k → place ≢ lies_at k) → StayAt place old new
 
 -- between the views v and w a stamp of the lookup's class reference was loaded, since which the
 -- notes have the implementation of this number

@@ -3,7 +3,7 @@
 ghost use Rattle.std.specs.Prelude.{◌≡◌, ◌+◌, ◌<◌, ◌≤◌, ◌^◌};
 ghost use Rattle.msg_reader.specs.Key.{IsSealed, key_of, mark_of, place_of};
 
-// The number of notes. It is a power of two, so the low bits of a key give the place of its note.
+// The number of places. It is a power of two, so the low bits of a key give the place of its note.
 pub(crate) const PLACES: usize = 4096;
 
 // The distance between the keys of two slots: more than the 2^36 that the keys of all selectors
@@ -22,14 +22,15 @@ const NO_METHOD: u64 = 65_535;
 // one load, and no signal handler comes between them. In a blank note it is 0, which belongs to no
 // lookup. `stamp` is the distance in bytes from the first of the words that threads share to the
 // stamp of the class reference. In a blank note it is 0. The count of changes lies there, and
-// whatever that says, the seal belongs to no lookup.
+// whatever that says, the seal belongs to no lookup. Of the two notes at a place the second is the
+// newer one if their parities are equal.
 #[repr(C)]
 #[derive(Clone, Copy)]
 pub(crate) struct Note {
     seal: u64,
     count: u64,
     imp: u32,
-    spare: u32,
+    pub(crate) parity: u32,
     stamp: u64,
     ghost sealed: { IsSealed seal imp },
 }
@@ -45,8 +46,7 @@ fn key(slot: usize, sel: u32) -> u64
     (slot as u64 + 1) * APART + u64::from(sel) * 16
 }
 
-// The only place where the note may be. Selectors of one class with near numbers have different
-// places.
+// The place of a lookup's note. Selectors of one class with near numbers have different places.
 #[inline(always)]
 pub(crate) fn place(slot: usize, sel: u32) -> usize
     requires { slot < 2 ^ 26 }
@@ -70,16 +70,17 @@ fn mark(imp: u32) -> u64
 }
 
 impl Note {
-    ghost use Rattle.std.specs.Prelude.{◌≡◌, ◌==◌, ◌+◌, ◌<◌, ◌≤◌, ◌^◌, ℕ, IfSome, Some, true};
+    ghost use Rattle.std.specs.Prelude.{◌≡◌, ◌==◌, ◌+◌, ◌<◌, ◌≤◌, ◌^◌, ℕ, IfSome, Some, false, true};
     ghost use Rattle.msg_reader.specs.Key.{IsSealOf, key_of, mark_of, place_of};
     ghost use Rattle.msg_tables.specs.History.{History};
-    ghost use Rattle.msg_reader.specs.Notes.{IsBlank, IsNoteOf, IsRecalled, LiesAt, Tells, found_by};
+    ghost use Rattle.msg_reader.specs.Notes.{IsNoteOf, IsRecalled, LiesAt, Tells, found_by, is_free_for};
+    ghost use Rattle.msg_reader.specs.Blank.{IsBlank};
 
     pub(crate) const BLANK: Note = Note {
         seal: 0,
         count: 0,
         imp: 0,
-        spare: 0,
+        parity: 0,
         stamp: 0,
     };
 
@@ -91,14 +92,25 @@ impl Note {
         self.seal == 0 && self.imp == 0 && self.stamp == 0
     }
 
-    // Whether the note is of this lookup.
+    // Whether the note is of this lookup. The seal of another one is mostly far from the key.
     #[inline(always)]
     fn is_of(&self, slot: usize, sel: u32) -> bool
         requires slot { slot < 2 ^ 26 }
         requires sel { 0 < sel }
         ensures { result ≡ (self.now.seal + mark_of self.now.imp == key_of slot sel) }
     {
-        self.seal + mark(self.imp) == key(slot, sel)
+        let key = key(slot, sel);
+        self.seal < key && key - self.seal <= NO_METHOD && key - self.seal == mark(self.imp)
+    }
+
+    // Whether the note is blank or of this lookup.
+    #[inline(always)]
+    fn is_free_for(&self, slot: usize, sel: u32) -> bool
+        requires slot { slot < 2 ^ 26 }
+        requires sel { 0 < sel }
+        ensures { result ≡ is_free_for self.now slot sel }
+    {
+        self.seal == 0 || self.is_of(slot, sel)
     }
 
     // The implementation's number, if this is a note of that lookup after at least this number of
@@ -119,7 +131,7 @@ impl Note {
 
     // Makes the note of a lookup after a number of changes. It says where the stamp lies.
     #[inline(always)]
-    pub(crate) fn of(count: u64, slot: usize, sel: u32, imp: u32, stamp: u64) -> Note
+    pub(crate) fn of(count: u64, slot: usize, sel: u32, imp: u32, stamp: u64, parity: u32) -> Note
         requires slot { slot < 2 ^ 26 }
         requires sel { 0 < sel }
         ensures sealed { IsSealOf result.seal slot sel imp }
@@ -133,8 +145,22 @@ impl Note {
             seal: key(slot, sel) - mark(imp),
             count,
             imp,
-            spare: 0,
+            parity,
             stamp,
         }
+    }
+
+    // Whether a lookup is noted second at the place of these two notes. It is if the first is of
+    // another lookup, and the second isn't or is the older of both. No clause says which is older:
+    // that is a matter of cost alone.
+    #[inline(always)]
+    pub(crate) fn comes_second(first: Note, second: Note, slot: usize, sel: u32) -> bool
+        requires slot { slot < 2 ^ 26 }
+        requires sel { 0 < sel }
+        ensures taken { result ≡ true → is_free_for first slot sel ≡ false }
+        ensures spared { result ≡ false → is_free_for second slot sel ≡ true → is_free_for first slot sel ≡ true }
+    {
+        !first.is_free_for(slot, sel)
+            && (second.is_free_for(slot, sel) || first.parity != second.parity)
     }
 }

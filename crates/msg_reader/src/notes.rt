@@ -1,13 +1,7 @@
 //! The notes that a sender keeps of its lookups. Only its own thread sees them, and no call here
 //! takes a lock or reads a shared word.
 
-ghost use Rattle.std.specs.Prelude.{◌≡◌, ◌<◌, ◌≤◌, ℕ, option_map, IfSome, None};
-ghost use Rattle.msg_names.specs.Number.{imp_number};
-ghost use Rattle.msg_tables.specs.History.{History};
-ghost use Rattle.msg_cache.specs.Views.{classes, layout};
-ghost use Rattle.msg_reader.specs.Kept.{KeepOthers};
-ghost use Rattle.msg_reader.specs.Notes.{AreBlank, AreNotesOf, IsKeptAt, StayNotes, StayStamped};
-ghost use Rattle.msg_reader.specs.Notes.{Tell, TellFound, recalled, recalled_of};
+ghost use Rattle.msg_reader.specs.Blank.{ComeAfter};
 
 use crate::note::{Note, PLACES, place};
 use msg_cache::Arena;
@@ -17,32 +11,47 @@ use msg_names::{ClassRef, ImpRef, Selector};
 const SLOTS: usize = 67_108_864;
 
 /// The notes that a sender keeps of its lookups. Each class reference and selector has one of 4,096
-/// places. In C they are as many notes of 32 bytes, and a note of zero bytes is blank.
+/// places, and there are two notes at each: a first and a second one. In C they are two arrays of
+/// notes of 32 bytes, and a note of zero bytes is blank.
 #[repr(C)]
 #[derive(Drop)]
 pub struct Notes {
-    notes: [Note; PLACES],
+    first: [Note; PLACES],
+    second: [Note; PLACES],
+    ghost after: { ComeAfter first second },
 }
 
 impl Notes {
+    ghost use Rattle.std.specs.Prelude.{◌≡◌, ◌<◌, ◌≤◌, ℕ, option_map, IfSome, None};
+    ghost use Rattle.msg_names.specs.Number.{imp_number};
+    ghost use Rattle.msg_tables.specs.History.{History};
+    ghost use Rattle.msg_cache.specs.Views.{classes, layout};
+    ghost use Rattle.msg_reader.specs.Kept.{KeepOthers, SpareOthers};
+    ghost use Rattle.msg_reader.specs.Notes.{AreBlank, AreNotesOf, IsKeptAt, StayNotes, StayStamped};
+    ghost use Rattle.msg_reader.specs.Notes.{Tell, TellFound, recalled, recalled_of};
+
     /// Makes blank notes.
     pub const fn new() -> Notes
         ensures blank { AreBlank result }
         ensures notes { (h : History) → AreNotesOf h result }
     {
         Notes {
-            notes: [Note::BLANK; PLACES],
+            first: [Note::BLANK; PLACES],
+            second: [Note::BLANK; PLACES],
         }
     }
 
-    /// Makes all notes blank. Only notes that aren't blank are written, so memory that no note was
-    /// written to stays untouched.
+    /// Makes all notes blank. Only notes that aren't blank are written, and a second note is looked
+    /// at only where there is a first one. So memory that no note was written to stays untouched.
     pub fn clear(&mut self)
         ensures { AreBlank self.new }
     {
         for place in 0..PLACES {
-            if !self.notes[place].is_blank() {
-                self.notes[place] = Note::BLANK;
+            if !self.first[place].is_blank() {
+                if !self.second[place].is_blank() {
+                    self.second[place] = Note::BLANK;
+                }
+                self.first[place] = Note::BLANK;
             }
         }
     }
@@ -81,29 +90,49 @@ impl Notes {
         ensures found { IfSome result (Tell self.now since slot sel) }
         ensures noted { result ≡ recalled self.now since slot sel }
     {
-        if slot < SLOTS {
-            self.notes[place(slot, sel)].answer(since, slot, sel)
-        } else {
-            None
+        if slot >= SLOTS {
+            return None;
+        }
+        let place = place(slot, sel);
+        match self.first[place].answer(since, slot, sel) {
+            Some(imp) => Some(imp),
+            None => self.second[place].answer(since, slot, sel),
         }
     }
 
     /// Notes what a lookup found after a number of changes, and where the stamp of its class
-    /// reference lies. It forgets only the note that was at its place. It notes nothing of a class
-    /// reference whose slot is 2^26 or more, for which no arena has a word.
+    /// reference lies. If both notes at its place are of other lookups, the older one is replaced.
+    /// Otherwise what is noted of other lookups stays. It notes nothing of a class reference whose
+    /// slot is 2^26 or more, for which no arena has a word.
     #[inline]
     pub fn keep(&mut self, arena: &Arena, count: u64, class: ClassRef, sel: Selector, imp: ImpRef)
         requires { class.class < classes arena.now }
         ensures notes { StayNotes self.old self.new count class sel imp }
         ensures kept { IsKeptAt count self.new class sel imp }
         ensures others { KeepOthers self.old self.new class sel }
+        ensures spared { SpareOthers self.old self.new class sel }
         ensures stamped { StayStamped (layout arena.now) self.old self.new }
     {
         let slot = class.slot();
         let named = sel.number();
-        if slot < SLOTS {
-            let stamp = arena.stamp_offset(class);
-            self.notes[place(slot, named)] = Note::of(count, slot, named, imp.number(), stamp);
+        if slot >= SLOTS {
+            return;
+        }
+        let stamp = arena.stamp_offset(class);
+        let place = place(slot, named);
+        let first = self.first[place];
+        let second = self.second[place];
+        if Note::comes_second(first, second, slot, named) {
+            self.second[place] = Note::of(count, slot, named, imp.number(), stamp, first.parity);
+        } else {
+            self.first[place] = Note::of(
+                count,
+                slot,
+                named,
+                imp.number(),
+                stamp,
+                second.parity ^ 1,
+            );
         }
     }
 }

@@ -32,6 +32,7 @@ pub(crate) fn flush_class(keeper: &mut Keeper, arena: &Arena, class: u32, own: b
 }
 
 // Flushes the caches of some class references.
+#[inline(always)]
 fn flush_each(keeper: &mut Keeper, arena: &Arena, below: Below<'_>)
     requires arena { IsKeeperOf arena.now keeper.old }
     requires classes { AreClasses below.classes (keeper_history keeper.old).origin }
@@ -50,6 +51,7 @@ fn flush_each(keeper: &mut Keeper, arena: &Arena, below: Below<'_>)
 
 // Flushes the caches of a class reference and of all below it. It looks at these and at one class
 // more.
+#[inline(always)]
 pub(crate) fn flush_below(keeper: &mut Keeper, arena: &Arena, tables: &Tables, class: ClassRef)
     requires arena { IsKeeperOf arena.now keeper.old }
     requires class { class.class < length tables.now.supers }

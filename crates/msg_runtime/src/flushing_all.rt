@@ -64,6 +64,7 @@ fn flush_once(
 // the classes that were made or disposed of, and of the places where rows were written and of all
 // below, by the present tables. What was below a place when a change wrote there still is, except
 // for classes that were disposed of.
+#[inline(always)]
 fn flush_written(keeper: &mut Keeper, arena: &Arena, tables: &Tables, entries: &[Entry])
     requires arena { IsKeeperOf arena.now keeper.old }
     requires listed { All (NamesListed (length tables.now.supers)) entries.now }
@@ -121,6 +122,7 @@ fn flushes_all<L: ChangeList>(tables: &Tables, changes: &L) -> bool
 
 // Flushes the caches that a list of changes affects, which were just made and wrote these entries.
 // For a document's classes all caches are flushed if the list only set one method or exchanged two.
+#[inline(always)]
 pub(crate) fn flush_changed<L: ChangeList>(
     keeper: &mut Keeper,
     arena: &Arena,

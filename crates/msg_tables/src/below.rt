@@ -1,11 +1,12 @@
 //! A class reference and those below it.
 
-ghost use Rattle.std.specs.Prelude.{◌≡◌, ◌<◌, ◌≤◌, ℕ, drop, length, true};
+ghost use Rattle.std.specs.Prelude.{◌≡◌, ◌<◌, ◌≤◌, ◌||◌, ℕ, drop, is_none, length, true};
 ghost use Rattle.msg_tables.specs.Below.{AreBelow};
 ghost use Rattle.msg_tables.specs.Contents.{AreBelowClass};
 ghost use Rattle.msg_tables.specs.Preorder.{is_in};
 ghost use Rattle.msg_tables.specs.Stands.{AtLog};
 
+use crate::presence::Presence;
 use crate::tables::Tables;
 use crate::walk::Walk;
 use msg_names::ClassRef;
@@ -78,7 +79,15 @@ impl Tables {
         Below {
             walk: Walk::from(&self.preorder, class.class),
             own: !class.meta,
-            meta: class.meta | presence.superclass.is_none(),
+            meta: has_metaclasses(class, presence),
         }
     }
+}
+
+// Whether a class reference that is present has metaclasses at or below it. A root class has.
+#[inline(always)]
+fn has_metaclasses(class: ClassRef, presence: Presence) -> bool
+    ensures { result ≡ (class.meta || is_none presence.superclass) }
+{
+    class.meta | presence.superclass.is_none()
 }

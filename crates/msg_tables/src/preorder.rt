@@ -1,6 +1,6 @@
 //! The classes that are present, in an order in which those below a class come right after it.
 
-ghost use Rattle.std.specs.Prelude.{◌≡◌, ◌<◌, ◌≤◌, length, replicate, false, true};
+ghost use Rattle.std.specs.Prelude.{◌≡◌, ◌<◌, ◌≤◌, length, replicate, slice_set, false, true};
 ghost use Rattle.std.specs.Prelude.{IfOk, IfSome, None, Some};
 ghost use Rattle.msg_tables.specs.declared.limits.TheConstants.{MAX_CLASSES};
 ghost use Rattle.msg_tables.specs.Chain.{is_present, presence_of};
@@ -63,15 +63,15 @@ impl Preorder {
         ensures nexts { self.new.nexts ≡ nexts_with self.old.nexts class superclass }
     {
         let Some(above) = superclass else {
-            self.links[class as usize] = NO_LINK;
+            self.set(class, NO_LINK);
             return;
         };
-        let link = self.links[above as usize];
-        self.links[class as usize] = Link {
-            depth: link.depth + 1,
-            next: link.next,
+        let link = Link {
+            depth: self.depth(above) + 1,
+            next: self.next(above),
         };
-        self.links[above as usize].next = Some(class);
+        self.set(class, link);
+        self.set_next(above, Some(class));
     }
 
     // Removes a class that `supers` and `order` no longer have, and that has no class below it. If
@@ -105,10 +105,10 @@ impl Preorder {
         let Some(above) = superclass else {
             return false;
         };
-        if self.links[above as usize].next != Some(class) {
+        if self.next(above) != Some(class) {
             return false;
         }
-        self.links[above as usize].next = self.links[class as usize].next;
+        self.set_next(above, self.next(class));
         true
     }
 
@@ -131,11 +131,40 @@ impl Preorder {
         requires next { IfSome (next_at self.now.nexts class) (λ k. k < length self.now.depths) }
         ensures { result ≡ if_deeper (depth_at self.now.depths) depth (next_at self.now.nexts class) }
     {
-        let next = self.links[class as usize].next?;
-        if self.links[next as usize].depth <= depth {
+        let next = self.next(class)?;
+        if self.depth(next) <= depth {
             return None;
         }
         Some(next)
+    }
+
+    // Sets the link of a class.
+    #[inline(always)]
+    fn set(&mut self, class: u32, link: Link)
+        requires { class < length self.old.depths }
+        ensures depths { self.new.depths ≡ slice_set self.old.depths class link.depth }
+        ensures nexts { self.new.nexts ≡ slice_set self.old.nexts class link.next }
+    {
+        self.links[class as usize] = link;
+    }
+
+    // Sets the class that comes next to one.
+    #[inline(always)]
+    fn set_next(&mut self, class: u32, next: Option<u32>)
+        requires { class < length self.old.nexts }
+        ensures depths { self.new.depths ≡ self.old.depths }
+        ensures nexts { self.new.nexts ≡ slice_set self.old.nexts class next }
+    {
+        self.links[class as usize].next = next;
+    }
+
+    // The class that comes next, unless it is a root class.
+    #[inline(always)]
+    fn next(&self, class: u32) -> Option<u32>
+        requires { class < length self.now.nexts }
+        ensures { result ≡ next_at self.now.nexts class }
+    {
+        self.links[class as usize].next
     }
 
     // The number of superclasses above a class.

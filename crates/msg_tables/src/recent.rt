@@ -1,6 +1,6 @@
 //! The places that were visited last.
 
-ghost use Rattle.std.specs.Prelude.{◌≡◌, ◌⊎◌, Some, true};
+ghost use Rattle.std.specs.Prelude.{◌≡◌, ◌⊎◌, IfSome, Some, true};
 ghost use Rattle.msg_names.specs.declared.value.ClassRef.{ClassRef};
 ghost use Rattle.msg_tables.specs.Journal.{place_of};
 ghost use Rattle.msg_tables.specs.Recent.{HasNoPlace, HasPlace, HasPlaceOf};
@@ -12,8 +12,8 @@ use std::marker::Model;
 const PLACES: usize = 8;
 
 /// Some of the class references that were visited last, eight at most. Of two whose slots differ by
-/// a multiple of eight, the later one is among them. No clause says which are: that is a matter of
-/// cost alone.
+/// a multiple of eight, the later one is among them. That is a matter of cost alone: no clause says
+/// more than that the last one is.
 #[derive(Drop)]
 pub struct Recent {
     // one more than the slot of each, or 0
@@ -42,6 +42,7 @@ impl Recent {
     pub fn had(&mut self, entry: &Entry) -> bool
         ensures had { result ≡ true → HasPlaceOf self.old entry.now }
         ensures places { (c : ClassRef) → HasPlace self.new c → HasPlace self.old c ⊎ (place_of entry.now ≡ Some c) }
+        ensures comes { IfSome (place_of entry.now) (HasPlace self.new) }
     {
         let Some(place) = entry.place() else {
             return false;

@@ -2,7 +2,7 @@
 """Copies of trusted/process/msg_process.c, include/*.h and trusted/objc/seat.h that are run step by step:
 `extract.py ROOT INTO`.
 
-One note takes all keys, so that they meet; a STEP() stands before each statement on what a handler
+One place takes all keys, so that they meet; a STEP() stands before each statement on what a handler
 of a signal reads or writes, and before each atomic load or store; the plain loads of a note are
 loads one by one. Each replacement has to be found, or the script fails: a changed source isn't
 checked as the old one."""
@@ -29,7 +29,8 @@ def steps(text):
     for line in text.split("\n"):
         code = line.strip()
         is_statement = (depth > 0 and code and not control and SHARED.search(code)
-                        and "__atomic_store_n(" not in code and not code.startswith(NO_STATEMENT)
+                        and "__atomic_store_n(" not in code
+                        and "__atomic_load_n(&msg_process_own" not in code and not code.startswith(NO_STATEMENT)
                         and not re.match(r"[|&?:]", code))
         done.append(re.sub(r"^(\s*)", r"\1STEP(); ", line, count=1) if is_statement else line)
         # a control line without a brace: its statement comes on the next line and isn't split
@@ -42,23 +43,29 @@ runtime = (root / "include/msg_runtime.h").read_text()
 (out / "msg_runtime.h").write_text(swap(
     runtime,
     ("enum { MSG_NOTES = 4096 };", "enum { MSG_NOTES = 1 };"),
-    ("{0, 0, {{0, 0, 0, 0, 0}}}", "{0}"),
+    ("{0, 0, {{0, 0, 0, 0, 0}}, {{0, 0, 0, 0, 0}}}", "{0}"),
     ("(sender)->notes + \\\n                                      2 * (uint16_t)(key)))",
-     "(sender)->notes + 0 * (key)))")))
+     "(sender)->notes + 0 * (key)))"),
+    ("(sender)->second_notes + \\\n                                      2 * (uint16_t)(key)))",
+     "(sender)->second_notes + 0 * (key)))")))
 
 process = (root / "include/msg_process.h").read_text()
 (out / "msg_process.h").write_text(swap(
     process,
     ("    uint64_t stamp = msg_process_stamp(note);\n"
      "    uint64_t said = note->count >= stamp ? msg_said(note, key) : MSG_SAID_NONE;\n",
-     "    msg_note cv_note; uint64_t stamp;\n    cv_loads(note, &cv_note, &stamp);\n"
-     "    uint64_t said = CV_IS_NEW(cv_note.count, stamp) ? key - cv_note.seal : MSG_SAID_NONE;\n"),
-    ("said == MSG_SAID_LONG ? note->imp", "said == MSG_SAID_LONG ? cv_note.imp"),
+     "    uint32_t cv_imp; uint64_t said = cv_said(note, key, MSG_SAID_NONE, &cv_imp);\n"),
+    ("said == MSG_SAID_LONG ? note->imp", "said == MSG_SAID_LONG ? cv_imp"),
     ("extern __thread __attribute__((tls_model(MSG_TLS)))", "extern")))
 
 source = (root / "trusted/process/msg_process.c").read_text().replace("__thread ", "")
 source = swap(
     source,
+    ("    uint64_t stamp = msg_process_stamp(note);\n"
+     "    uint64_t said = note->count >= stamp ? msg_said(note, key) : 0;\n",
+     "    uint32_t cv_imp; uint64_t said = cv_said(note, key, 0, &cv_imp);\n"),
+    ("said == MSG_SAID_LONG ? note->imp", "said == MSG_SAID_LONG ? cv_imp"),
+    ("static inline bool second_says(", "static __attribute__((noinline)) bool second_says("),
     ("    int how = MAP_PRIVATE | MAP_ANONYMOUS;\n", ""),
     ("mmap(NULL, sizeof(struct seat), PROT_READ | PROT_WRITE, how, -1, 0)", "cv_seat()"),
     ("return seat == MAP_FAILED ? NULL : seat;",
@@ -83,6 +90,7 @@ notes = swap(
      "    if (__builtin_expect(note->count < stamp, 0)) return UINT64_MAX;",
      "    uint64_t stamp; CV_STAMP_AND_COUNT(note, stamp);\n    if (!CV_IS_NEW(cv_count, stamp)) return UINT64_MAX;"),
     ("    uint64_t said = msg_said(note, key);", "    uint64_t said = key - CV_SEAL(note);"),
+    ("if (msg_said(note, key) > MSG_SAID_NONE)", "if (key - __atomic_load_n(&note->seal, 0) > MSG_SAID_NONE)"),
     ("    bool is_of = note->count >= msg_process_stamp(note) && msg_said(note, key) == said;\n"
      "    *all = *note;\n",
      "    uint64_t stamp;\n    cv_loads(note, all, &stamp);\n"

@@ -40,13 +40,19 @@ static bool has_stamp(msg_note n) { return n.stamp % 8 == 0 && n.stamp < sizeof 
 static uint64_t stamp_of(msg_note n) { return *(const uint64_t *)(const void *)&shared[n.stamp]; }
 
 /* `recalled` of Notes.antt, of a slot below 2^26, in terms of its key: keys_are_the_spec shows that
- * msg_key is key_of, and that place_of is of its low 16 bits. */
+ * msg_key is key_of, and that place_of is of its low 16 bits. The second notes lie behind the first
+ * ones of all places. */
 #define NOTHING (~(nat)0) /* None */
 static msg_note noted(uint64_t key) { return note_at((key & 65535) / 16); }
+static msg_note noted_second(uint64_t key) { return note_at(4096 + (key & 65535) / 16); }
+static nat said_by(msg_note n, uint64_t since, uint64_t key)
+{
+    return n.seal + mark_of(n.imp) == key && n.count >= since ? (nat)n.imp : NOTHING;
+}
 static nat recalled(uint64_t since, uint64_t key)
 {
-    msg_note n = noted(key);
-    return n.seal + mark_of(n.imp) == key && n.count >= since ? (nat)n.imp : NOTHING;
+    nat first = said_by(noted(key), since, key);
+    return first != NOTHING ? first : said_by(noted_second(key), since, key);
 }
 static nat number_of_recalled(nat r) { return r == NOTHING ? 0 : r == 0 ? 4294967296u : r; }
 
@@ -91,18 +97,26 @@ void keys_are_taken_apart(void)
     __CPROVER_assert(MSG_SEL_OF(key) == sel, "MSG_SEL_OF inverts");
 }
 
-/* ---- recalls: what the proved msg_recall answers since the stamp, by its contract ---- */
+/* ---- recalls: what the first note says, and so what the proved msg_recall answers since the
+ * stamp, by its contract ---- */
 void recall_key_is_msg_recall(void)
 {
     ANY(uint64_t, key); /* any key that msg_key may make, and more */
     __CPROVER_assume(IS_KEY(key) && is_sealed(noted(key), key) && has_stamp(noted(key)));
     const unsigned char *place = (const unsigned char *)MSG_NOTE_OF(SENDER, key);
-    __CPROVER_assert(place == bytes + 16 + 32 * ((key & 65535) / 16), "MSG_NOTE_OF is the place");
-    nat said = number_of_recalled(recalled(stamp_of(noted(key)), key));
+    const unsigned char *second = (const unsigned char *)MSG_SECOND_NOTE_OF(SENDER, key);
+    size_t at = 16 + 32 * ((key & 65535) / 16);
+    __CPROVER_assert(place == bytes + at, "MSG_NOTE_OF is the place");
+    __CPROVER_assert(second == bytes + 32 * 4096 + at, "MSG_SECOND_NOTE_OF is its second note");
+    uint64_t since = stamp_of(noted(key));
+    nat all = number_of_recalled(recalled(since, key));
+    nat said = number_of_recalled(said_by(noted(key), since, key));
     uint32_t imp = msg_recall_key(SENDER, WORDS, key);
-    __CPROVER_assert(imp == (said == MSG_NOTED_NONE ? 0 : said), "msg_recall_key is msg_recall");
+    __CPROVER_assert(imp == (said == MSG_NOTED_NONE ? 0 : said), "msg_recall_key is that note");
+    __CPROVER_assert(!imp || imp == all, "what it gives is msg_recall");
     bool is_none = msg_recall_none_key(SENDER, WORDS, key);
     __CPROVER_assert(is_none == (said == MSG_NOTED_NONE), "msg_recall_none_key is NOTED_NONE");
+    __CPROVER_assert(!is_none || all == MSG_NOTED_NONE, "which msg_recall is then");
 }
 /* One load of a seal tells of which lookup it is, and what it says of that. */
 void a_seal_says_key_and_number(void)
@@ -141,7 +155,7 @@ void a_note_of_any_place(void)
 {
     ANY(uint64_t, key);
     __CPROVER_assume(IS_KEY(key) && has_stamp(noted(key)));
-    nat said = number_of_recalled(recalled(stamp_of(noted(key)), key));
+    nat said = number_of_recalled(said_by(noted(key), stamp_of(noted(key)), key));
     uint32_t imp = msg_recall_key(SENDER, WORDS, key);
     __CPROVER_assert(imp == (said == MSG_NOTED_NONE ? 0 : said), "must fail");
 }

@@ -66,6 +66,7 @@ static unsigned long words[3]; /* the count of changes, and the stamps of two cl
 
 #include "msg_runtime.h"
 static void cv_loads(const msg_note *note, msg_note *all, uint64_t *stamp);
+static uint64_t cv_said(const msg_note *note, uint64_t key, uint64_t old, uint32_t *imp);
 static uint64_t cv_stamp_and_count(const msg_note *note, uint64_t *count);
 #ifdef EARLY /* must fail: the seal before the stamp */
 #define CV_STAMP_AND_COUNT(note, stamp) \
@@ -81,6 +82,11 @@ static uint64_t cv_stamp_and_count(const msg_note *note, uint64_t *count);
 #define CV_IS_NEW(count, stamp) (((count) & 1) >= ((stamp) & 1))
 #else
 #define CV_IS_NEW(count, stamp) ((count) >= (stamp))
+#endif
+#ifdef LONG /* each number is taken for a long one */
+#define IS_LONG 1
+#else
+#define IS_LONG 0
 #endif
 #ifdef WEAK /* must fail: a number by a load of its own */
 #define IS_WEAK 1
@@ -111,7 +117,7 @@ void cv_show_trace(void)
 }
 /* ---- the model of the library ---- */
 enum { A, B };
-#define KEY(i) msg_key(2 + 2 * (i), 1) /* of two classes, but of one place */
+#define KEY(i) msg_key(2 + 2 * (i), 1) /* of two classes, but of one place, which has two notes */
 #define CLOSED UINT64_MAX
 static uint64_t made;     /* changes that are made */
 static uint64_t finished; /* the count of them as the last call returned, in the order of all */
@@ -179,17 +185,24 @@ static void enter(const msg_sender *s)
 }
 static void leave(const msg_sender *s) { STEP(); other(false); inside[WHICH(s)] = false; }
 
-#ifdef LONG /* each number is taken for a long one */
-static uint64_t mark_of(uint32_t imp) { return imp ? MSG_SAID_LONG : MSG_SAID_NONE; }
-#else
-static uint64_t mark_of(uint32_t imp) { return imp ? imp : MSG_SAID_NONE; }
-#endif
+static uint64_t mark_of(uint32_t imp)
+{
+    return !imp ? MSG_SAID_NONE : IS_LONG ? MSG_SAID_LONG : imp;
+}
 
+/* Which note of the place a lookup is noted in: the one that is of it, else any. The library puts
+ * the older one out; by what else is noted there, that nobody asks for here, it may be either. */
+static bool is_of(const msg_note *it, uint32_t key) { return KEY(key) - it->seal <= MSG_SAID_NONE; }
+static bool is_second(const msg_sender *s, uint32_t key)
+{
+    return is_of(s->second_notes, key) || (!is_of(s->notes, key) && any_bool());
+}
 static void keep(msg_sender *s, uint32_t key, uint64_t count, uint32_t imp)
 {
-    STEP(); s->notes[0].imp = imp;
-    STEP(); s->notes[0].seal = KEY(key) - mark_of(imp);
-    STEP(); s->notes[0].count = count; s->notes[0].stamp = 8 * (1 + key);
+    msg_note *it = is_second(s, key) ? s->second_notes : s->notes;
+    STEP(); it->imp = imp;
+    STEP(); it->seal = KEY(key) - mark_of(imp);
+    STEP(); it->count = count; it->stamp = 8 * (1 + key);
     SAY("noted: key, imp", key, imp);
 }
 uint32_t msg_sender_open(msg_runtime *r, msg_sender *s)
@@ -204,7 +217,7 @@ uint32_t msg_sender_close(msg_runtime *r, msg_sender *s)
 {
     __CPROVER_assert(holder == 1, "under the lock");
     __CPROVER_assert(!inside[WHICH(s)], "RULE 3: closed in no call");
-    opened[WHICH(s)] = false; s->notes[0] = (msg_note){0};
+    opened[WHICH(s)] = false; s->notes[0] = s->second_notes[0] = (msg_note){0};
     return 0;
 }
 uint32_t msg_probe(msg_sender *s, uint32_t number, bool meta, uint32_t sel, uint32_t *imp)
@@ -436,14 +449,26 @@ static uint64_t cv_stamp_and_count(const msg_note *note, uint64_t *count)
     if (!is_early) { STEP(); *count = note->count; }
     return stamp;
 }
-/* And the number, which may be loaded at any time. */
+/* And the number, which may be loaded at any time; it is used where it is a long one alone. */
 static void cv_loads(const msg_note *note, msg_note *all, uint64_t *stamp)
 {
-    bool is_early = any_bool();
+    bool is_early = IS_LONG && any_bool();
     if (is_early) { STEP(); all->imp = note->imp; }
     *stamp = cv_stamp_and_count(note, &all->count);
     STEP(); all->seal = note->seal;
-    if (!is_early) { STEP(); all->imp = note->imp; }
+    if (IS_LONG && !is_early) { STEP(); all->imp = note->imp; }
+}
+/* What a note says, and what one says that is old; a frame of its own, and no more than is used, so
+ * that fewer states are told apart. */
+static __attribute__((noinline)) uint64_t cv_said(const msg_note *note, uint64_t key, uint64_t old,
+                                                  uint32_t *imp)
+{
+    msg_note all;
+    uint64_t stamp;
+    cv_loads(note, &all, &stamp);
+    uint64_t said = CV_IS_NEW(all.count, stamp) ? key - all.seal : old;
+    *imp = said == MSG_SAID_LONG ? all.imp : 0;
+    return said <= MSG_SAID_NONE ? said : UINT64_MAX;
 }
 
 /* ---- what is claimed ---- */

@@ -2,11 +2,11 @@
  * its steps took on its slowest thread; so two programs take turns. bench LOAD THREADS WINDOWS:
  * so many windows at once, of which nothing is told, for a count of instructions. LOAD: own,
  * inherited, mixed (objc_msg_lookup); many (14,000 messages in a random order, more than a sender
- * of the shim has notes); neighbours (two in turns, whose notes share a place); class (a send to a
- * class by name); responds, lacks (class_respondsToSelector that answers YES, NO); forwarded
- * (objc_msg_lookup of what no class has, which a hook answers); on one thread, class_replaceMethod
- * with the next send: replace, in a class without subclasses, and replace_above, in one that has
- * two. */
+ * of the shim has notes); neighbours (two in turns, of one place: one is found by the first note
+ * there, one by the second); class (a send to a class by name); responds, lacks
+ * (class_respondsToSelector that answers YES, NO); forwarded (objc_msg_lookup of what no class has,
+ * which a hook answers); on one thread, class_replaceMethod with the next send: replace, in a class
+ * without subclasses, and replace_above, in one that has two. */
 #include "../tests/calls.h"
 #include <pthread.h>
 #include <stdbool.h>
@@ -24,7 +24,7 @@ enum {
     ORDER = 1024,
     MANY_SELS = 96,
     MANY = 14000,
-    NOTES = 4096
+    PLACES = 4096
 };
 
 __attribute__((objc_root_class)) @interface Level0 { Class isa; }
@@ -176,18 +176,18 @@ static void prepare(void)
     }
 }
 
-/* Numbers of selectors follow one another as they are registered, and a note's place is theirs
- * modulo how many notes there are. */
+/* Numbers of selectors follow one another as they are registered, and the place of notes is theirs
+ * modulo how many places there are. */
 static void prepare_neighbours(void)
 {
     SEL sel = NULL;
-    for (int i = 0; i <= NOTES; i++) {
+    for (int i = 0; i <= PLACES; i++) {
         char name[16];
         snprintf(name, sizeof name, "neighbour%d", i);
         sel = sel_registerName(name);
-        if (i % NOTES) continue;
+        if (i % PLACES) continue;
         class_addMethod(objects[3]->isa, sel, (IMP)one, "l16@0:8");
-        neighbours[i / NOTES] = (struct pair){objects[3], sel};
+        neighbours[i / PLACES] = (struct pair){objects[3], sel};
     }
 }
 

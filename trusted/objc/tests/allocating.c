@@ -13,7 +13,7 @@ static SEL sels[KINDS];
 static id object;
 static long handled, wrong, forks, rounds, over, changing;
 
-/* Each pushes the other's note out, so it is asked further. */
+/* Three share a place of two notes: each puts out one of the others, so it is asked further. */
 static void handle(int signal)
 {
     (void)signal;

@@ -1,17 +1,18 @@
 /* A handler of a signal comes before each single instruction of a send whose place in the thread's
- * notes is another message's, and sends the same: each answer is of its own class and selector. */
+ * notes has those of two other messages, and sends the same; and of one that is noted there, first
+ * or second, and sends others: each answer is of its own class and selector. */
 #define _GNU_SOURCE /* for the names of registers */
 #include "places.h"
 #include <signal.h>
 #include <ucontext.h>
 
-enum { ENDLESS = 100000, NUMBERS_APART = 2048, FEW = 10, NOBODY = 13 };
+enum { ENDLESS = 100000, NUMBERS_APART = 2048, FEW = 10, NOBODY = 13, OF_A_PLACE = 4 };
 
 /* What is sent, and what it answers. */
 struct message { id to; SEL sel; long answer; };
 typedef long (*way)(const struct message *);
 
-static const struct message *now_sent;
+static const struct message *now_sent[2];
 static way now_by;
 static long wrong, handled;
 
@@ -28,7 +29,9 @@ static void on_step(int number, siginfo_t *info, void *context)
     (void)number, (void)info;
     if (step++ < at) return;
     ((ucontext_t *)context)->uc_mcontext.gregs[REG_EFL] &= ~TRAP;
-    handled = now_by(now_sent) == now_sent->answer ? 1 : -1;
+    handled = 1;
+    for (int i = 0; i < 2; i++)
+        if (now_by(now_sent[i]) != now_sent[i]->answer) handled = -1;
 }
 
 static inline __attribute__((always_inline)) void trap(int on)
@@ -67,18 +70,36 @@ WAY(by_super, IMP, objc_msg_lookup_super(&((struct objc_super){it->to, it->to->i
 WAY(by_question, BOOL, class_respondsToSelector(it->to->isa, it->sel),
     found == (it->answer != NOBODY) ? it->answer : -1)
 
-/* Whether a handler was tried before each instruction of a send of one in the other's place. */
-static int try_each(way by, const struct message *one, const struct message *other)
+static void send_plainly(const struct message *it)
+{
+    if (send(it->to, it->sel) != it->answer) wrong++;
+}
+
+/* The first is noted, or two others are. */
+static void prepare(const struct message *all, int noted, int others)
+{
+    if (!noted) send_plainly(all);
+    for (int i = 1; i <= others; i++) send_plainly(&all[i]);
+    if (noted) send_plainly(all);
+}
+
+/* Whether a handler was tried before each instruction of a send of the first message. Where that is
+ * noted it sends two others, else the same. By the rounds it is noted first at times, and second.
+ */
+static int try_each(way by, const struct message *all, int noted)
 {
     now_by = by;
-    now_sent = one;
+    for (int i = 0; i < 2; i++) now_sent[i] = &all[noted ? i + 1 : 0];
     for (at = 0; at < ENDLESS; at++) {
-        if (send(one->to, one->sel) != one->answer || send(other->to, other->sel) != other->answer)
-            wrong++;
-        step = handled = 0;
-        steps = 1;
-        if (by(one) != one->answer || handled < 0) wrong++;
-        if (step <= at) break;
+        long most = 0;
+        for (int round = 0; round < (noted ? 4 : 2); round++) {
+            prepare(all, noted, 2 + (noted && round % 2));
+            step = handled = 0;
+            steps = 1;
+            if (by(all) != all->answer || handled < 0) wrong++;
+            if (step > most) most = step;
+        }
+        if (most <= at) break;
     }
     return at >= LEAST && at < ENDLESS;
 }
@@ -112,8 +133,12 @@ int main(void)
                  {by_question, 0, 1}, {by_question, 0, 3}, {by_question, 3, 0}};
     int tried = 0;
     set_handler();
-    for (size_t i = 0; i < sizeof tries / sizeof *tries; i++)
-        tried += try_each(tries[i].by, &messages[tries[i].one], &messages[tries[i].other]);
+    for (size_t i = 0; i < sizeof tries / sizeof *tries; i++) {
+        struct message all[OF_A_PLACE] = {messages[tries[i].one], messages[tries[i].other]};
+        for (int k = 0, next = 2; k < OF_A_PLACE; k++)
+            if (k != tries[i].one && k != tries[i].other) all[next++] = messages[k];
+        tried += try_each(tries[i].by, all, 0) && try_each(tries[i].by, all, 1);
+    }
     object_dispose(of);
     object_dispose(other);
     printf("tried %d, wrong %ld\n", tried, wrong);

@@ -31,10 +31,10 @@ static long answer_of(int kind)
     return all[kind];
 }
 
-/* The next comes where the last has been. */
-static void send_two(void)
+/* Their place has two notes, so each comes where the one before the last has been. */
+static void send_three(void)
 {
-    for (int kind = 1; kind < 3; kind++) wrong += send(object, sels[kind]) != answer_of(kind);
+    for (int kind = 1; kind < 4; kind++) wrong += send(object, sels[kind]) != answer_of(kind);
 }
 
 static void send_all(void)
@@ -90,7 +90,7 @@ int main(void)
     signal(SIGALRM, handle);
     timer_create(CLOCK_MONOTONIC, &event, &timer);
     start_timer();
-    go_on(1.5, send_two);
+    go_on(1.5, send_three);
     int enough = get(&handled) >= ENOUGH;
     set(&many, 1);
     go_on(1.5, send_all);

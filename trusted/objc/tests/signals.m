@@ -68,14 +68,15 @@ static void handle(int signal)
     count(&handled[thread]);
 }
 
-/* A selector that the shim notes where it notes `value`: a thread that looks up both goes the slow
- * way each time, where handlers then find it. */
+/* A selector more that the shim notes where it notes `value`, at a place of two notes: a thread
+ * that looks up three in turns goes the slow way each time, where handlers then find it. */
 static SEL at_place_of_value(void)
 {
+    static int fillers;
     char name[16];
     SEL sel = value;
     for (int i = 0; i < 4096 && (sel == value || *(uint16_t *)sel != *(uint16_t *)value); i++) {
-        snprintf(name, sizeof name, "filler%d", i);
+        snprintf(name, sizeof name, "filler%d", fillers++);
         sel = sel_registerName(name);
     }
     return sel;
@@ -83,10 +84,11 @@ static SEL at_place_of_value(void)
 
 static void *send_beside(void *none)
 {
-    SEL alike = at_place_of_value();
+    SEL alike = at_place_of_value(), another = at_place_of_value();
     thread = 1;
     while (!get(&over)) {
         objc_msg_lookup((id)base, alike);
+        objc_msg_lookup((id)base, another);
         look();
     }
     return none;

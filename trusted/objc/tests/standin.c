@@ -642,28 +642,37 @@ static uint64_t mark_of(uint32_t imp)
     return !imp ? MSG_SAID_NONE : imp < MSG_SAID_LONG ? imp : MSG_SAID_LONG;
 }
 
-static const msg_note *note_at(const msg_sender *sender, uint32_t slot, uint32_t sel)
+static bool is_note_of(const msg_note *it, uint64_t key)
 {
-    return MSG_NOTE_OF(sender, msg_key(slot, sel));
+    return it->seal + mark_of(it->imp) == key;
 }
 
+static bool is_free(const msg_note *it, uint64_t key) { return !it->seal || is_note_of(it, key); }
+
+/* Where both notes of a place are of other lookups, the older one is put out. */
 static void note(msg_sender *sender, uint32_t slot, uint32_t sel, uint64_t count, uint32_t imp)
 {
-    uint64_t seal = msg_key(slot, sel) - mark_of(imp), at = (STAMPS + slot) * sizeof(uint64_t);
-    *(msg_note *)note_at(sender, slot, sel) = (msg_note){seal, count, imp, 0, at};
+    uint64_t key = msg_key(slot, sel), stamp_at = (STAMPS + slot) * sizeof(uint64_t);
+    msg_note *first = (msg_note *)MSG_NOTE_OF(sender, key);
+    msg_note *second = (msg_note *)MSG_SECOND_NOTE_OF(sender, key);
+    bool is_second =
+        !is_free(first, key) && (is_free(second, key) || first->parity != second->parity);
+    uint32_t parity = is_second ? first->parity : !second->parity;
+    *(is_second ? second : first) = (msg_note){key - mark_of(imp), count, imp, parity, stamp_at};
 }
 
-static bool is_noted(const msg_sender *sender, uint32_t slot, uint32_t sel, uint64_t count)
+static const msg_note *noted(const msg_sender *sender, uint32_t slot, uint32_t sel, uint64_t since)
 {
-    const msg_note *at = note_at(sender, slot, sel);
-    return at->seal + mark_of(at->imp) == msg_key(slot, sel) && at->count >= count;
+    uint64_t key = msg_key(slot, sel);
+    const msg_note *first = MSG_NOTE_OF(sender, key), *second = MSG_SECOND_NOTE_OF(sender, key);
+    if (is_note_of(first, key) && first->count >= since) return first;
+    return is_note_of(second, key) && second->count >= since ? second : NULL;
 }
 
-size_t msg_recall(const msg_sender *sender, size_t slot, uint32_t sel, uint64_t count)
+size_t msg_recall(const msg_sender *sender, size_t slot, uint32_t sel, uint64_t since)
 {
-    if (slot >= MSG_SLOTS || !is_noted(sender, (uint32_t)slot, sel, count)) return 0;
-    uint32_t imp = note_at(sender, (uint32_t)slot, sel)->imp;
-    return imp ? imp : MSG_NOTED_NONE;
+    const msg_note *it = slot < MSG_SLOTS ? noted(sender, (uint32_t)slot, sel, since) : NULL;
+    return !it ? 0 : it->imp ? it->imp : MSG_NOTED_NONE;
 }
 
 static struct entry *place(struct tables *tables, uint64_t key)
@@ -733,8 +742,8 @@ uint32_t msg_probe(msg_sender *sender, uint32_t number, bool meta, uint32_t sel,
     must(asker); /* in one call at a time: the library takes it out meanwhile */
     sender->at = NULL;
     uint32_t slot = 2 * number + meta, answer = fault_of(asker->tables, number, sel);
-    if (!answer && is_noted(sender, slot, sel, stamp(asker->tables, slot)))
-        *imp = note_at(sender, slot, sel)->imp;
+    const msg_note *it = answer ? NULL : noted(sender, slot, sel, stamp(asker->tables, slot));
+    if (it) *imp = it->imp;
     else if (!answer) answer = probe(asker, sender, slot, sel, imp);
     sender->at = asker;
     return answer;
@@ -762,10 +771,9 @@ static uint32_t probe_after(struct asker *asker, msg_sender *sender, uint64_t co
     uint32_t slot = 2 * it.number + it.meta, answer = MSG_DONE;
     uint64_t since = stamp(asker->tables, slot);
     if (since > count) return MSG_MISSED;
-    if (is_noted(sender, slot, it.sel, since))
-        *imp = note_at(sender, slot, it.sel)->imp;
-    else
-        answer = probe(asker, sender, slot, it.sel, imp);
+    const msg_note *found = noted(sender, slot, it.sel, since);
+    if (found) *imp = found->imp;
+    else answer = probe(asker, sender, slot, it.sel, imp);
     return answer || stamp(asker->tables, slot) > count ? MSG_MISSED : MSG_DONE;
 }
 

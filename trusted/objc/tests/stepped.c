@@ -1,7 +1,7 @@
 /* A handler of a signal comes before each single instruction of a send, and of a change, and
  * sends: what it finds, and what it came between, is by the changes that there are. */
 #define _GNU_SOURCE /* for the names of registers */
-#include "modules.h"
+#include "places.h"
 
 enum { ENDLESS = 100000 };
 
@@ -98,8 +98,10 @@ static long change_each(void)
 int main(void)
 {
     take();
-    first = sel_registerName("one");
-    second = sel_registerName("two");
+    first = sel_registerName("first");
+    second = one_place_on("second"); /* so it is noted second */
+    class_addMethod(&root, first, one, "@16@0:8");
+    class_addMethod(&root, second, two, "@16@0:8");
     object = class_createInstance(&child, 0);
     send(object, first);
     send(object, second);

@@ -4,7 +4,7 @@
  * of the process, whose thread goes on. What must hold there: a message is answered by a list that
  * there was meanwhile, several lookups by one list, and after it all is by the newest. */
 #define _GNU_SOURCE /* for the names of registers */
-#include "modules.h"
+#include "places.h"
 #include "msg_objc.h"
 #include "msg_process.h"
 #include <pthread.h>
@@ -42,23 +42,25 @@ void free(void *unused) { (void)unused; }
 
 /* ---- what is sent ---- */
 
-enum { LISTS = 4, COUNT = 3 };
+enum { LISTS = 4, SELS = 3, COUNT = SELS + 1 }; /* of a class all lie at one place, of two notes */
 enum { SENDS, LOOKS_UP, REPLACES, ACTS };
-enum { NOTED, CHANGED, FIRST, STATES };
+enum { NOTED, SECOND, CHANGED, FIRST, STATES }; /* noted first, or second */
 enum { HANDLER_SENDS, HANDLER_LOOKS_UP, HANDLER_REPLACES, KINDS };
 
 /* List number v has one of these for each selector, by v % LISTS. */
 #define F(n) static id f##n(id self, SEL sel, ...) { (void)self; (void)sel; return (id)n; }
-F(100) F(101) F(102) F(103) F(200) F(201) F(202) F(203)
-static const IMP functions[2][LISTS] = {{f100, f101, f102, f103}, {f200, f201, f202, f203}};
+F(100) F(101) F(102) F(103) F(200) F(201) F(202) F(203) F(300) F(301) F(302) F(303)
+static const IMP functions[SELS][LISTS] = {
+    {f100, f101, f102, f103}, {f200, f201, f202, f203}, {f300, f301, f302, f303}};
 
-static SEL sels[2];
+static SEL sels[SELS];
 static id object;
 static volatile long version; /* the newest list */
 static int act, state, kind = -1;
 static long wrong, failed, steps, copies;
 
 /* Of the layer for a process, as the shim has it; no program's where the shim is a library. */
+extern __thread struct msg_process_thread shim_process_own __attribute__((weak));
 extern uint32_t shim_process_lock(msg_runtime **runtime) __attribute__((weak));
 extern void shim_process_unlock(void) __attribute__((weak));
 
@@ -80,12 +82,12 @@ static void is_right(IMP imp, int sel, long least)
 /* The handler looks them up in another order. */
 static size_t look_up(IMP *imps, bool in_handler)
 {
-    static const int orders[2][COUNT] = {{0, 1, 2}, {1, 2, 0}};
+    static const int orders[2][COUNT] = {{0, 1, 2, 3}, {1, 2, 3, 0}};
     const int *at = orders[in_handler];
     struct objc_method_lookup rows[COUNT];
-    rows[at[0]] = (struct objc_method_lookup){&child, sels[0], NULL};
-    rows[at[1]] = (struct objc_method_lookup){&child, sels[1], NULL};
-    rows[at[2]] = (struct objc_method_lookup){&root, sels[0], NULL};
+    for (int i = 0; i < SELS; i++)
+        rows[at[i]] = (struct objc_method_lookup){&child, sels[i], NULL};
+    rows[at[SELS]] = (struct objc_method_lookup){&root, sels[0], NULL};
     size_t answer = objc_lookup_methods(rows, COUNT);
     for (int i = 0; i < COUNT; i++) imps[i] = rows[at[i]].imp;
     return answer;
@@ -94,15 +96,15 @@ static size_t look_up(IMP *imps, bool in_handler)
 static void are_of_one(const IMP *imps, long least)
 {
     while (least < version && !is_of(imps[0], 0, least)) least++;
-    want("of one list", is_of(imps[0], 0, least) && is_of(imps[1], 1, least) &&
-                            imps[2] == imps[0]);
+    for (int i = 0; i < SELS; i++) want("of one list", is_of(imps[i], i, least));
+    want("of one method", imps[SELS] == imps[0]);
 }
 
-static struct objc_method_swap swaps[2];
+static struct objc_method_swap swaps[SELS];
 
 static void plan(void)
 {
-    for (int i = 0; i < 2; i++)
+    for (int i = 0; i < SELS; i++)
         swaps[i] = (struct objc_method_swap){&root, sels[i], functions[i][(version + 1) % LISTS],
                                              NULL};
 }
@@ -110,7 +112,7 @@ static void plan(void)
 static void replace(void)
 {
     plan();
-    want("replaced", objc_replace_methods(swaps, 2) == 2);
+    want("replaced", objc_replace_methods(swaps, SELS) == SELS);
     version++;
 }
 
@@ -131,7 +133,7 @@ static void handle(void)
     long least = version;
     if (act == REPLACES) version++;
     if (kind == HANDLER_SENDS)
-        for (int i = 2; i--;) is_right(objc_msg_lookup(object, sels[i]), i, least);
+        for (int i = SELS; i--;) is_right(objc_msg_lookup(object, sels[i]), i, least);
     if (kind == HANDLER_LOOKS_UP) {
         size_t answer = look_up(imps, true);
         want("looked up", answer == COUNT || (!answer && step > 0));
@@ -165,7 +167,7 @@ static void do_in_steps(void)
     trap(1);
     if (act == SENDS) imp = objc_msg_lookup(object, sels[0]);
     else if (act == LOOKS_UP) answer = look_up(imps, false);
-    else answer = objc_replace_methods(swaps, 2) + 1;
+    else answer = objc_replace_methods(swaps, SELS) + COUNT - SELS;
     trap(0);
     if (act == REPLACES) version++;
     want("the call", answer == COUNT);
@@ -178,20 +180,35 @@ static void settle(void)
 {
     IMP imps[COUNT];
     for (int again = 0; again < 2; again++) {
-        for (int i = 2; i--;) is_right(objc_msg_lookup(object, sels[i]), i, version);
+        for (int i = SELS; i--;) is_right(objc_msg_lookup(object, sels[i]), i, version);
         want("all", look_up(imps, false) == COUNT);
         are_of_one(imps, version);
         if (!again) replace();
     }
 }
 
-static void *do_and_settle(void *none)
+static bool is_noted_in(bool second)
+{
+    if (!shim_process_lock) return true; /* it can't be told */
+    uint64_t key = child.key + sels[0]->name.key;
+    const msg_sender *sender = shim_process_own.sender;
+    const msg_note *note = second ? MSG_SECOND_NOTE_OF(sender, key) : MSG_NOTE_OF(sender, key);
+    return msg_said(note, key) < MSG_SAID_NONE;
+}
+
+/* The first message: of three in turns each is noted first at times, and second. */
+static void note_in(bool second)
 {
     IMP imps[COUNT];
-    if (state != FIRST) {
-        objc_msg_lookup(object, sels[0]);
-        look_up(imps, false);
-    }
+    objc_msg_lookup(object, sels[0]);
+    look_up(imps, false);
+    for (int i = 1; i < 10 && !is_noted_in(second); i++) objc_msg_lookup(object, sels[i % SELS]);
+    want("where it is noted", is_noted_in(second));
+}
+
+static void *do_and_settle(void *none)
+{
+    if (state != FIRST) note_in(state == SECOND);
     if (state == CHANGED) replace();
     do_in_steps();
     settle();
@@ -204,14 +221,16 @@ static void *do_and_settle(void *none)
 int main(void)
 {
     take();
-    sels[0] = sel_registerName("one");
-    sels[1] = sel_registerName("two");
+    sels[0] = one_place_on("the first");
+    sels[1] = one_place_on("the second");
+    sels[2] = one_place_on("the third");
+    for (int i = 0; i < SELS; i++) class_addMethod(&root, sels[i], functions[i][0], "@16@0:8");
     object = class_createInstance(&child, 0);
     replace();
     send(object, sels[0]);
     set_steps();
     for (state = NOTED; state < STATES; state++)
-        for (act = SENDS; act < ACTS; act++) {
+        for (act = SENDS; act < (state == SECOND ? REPLACES : ACTS); act++) {
             pthread_t thread;
             pthread_create(&thread, NULL, do_and_settle, NULL);
             pthread_join(thread, NULL);

@@ -177,6 +177,68 @@ static void locked(void)
     WANT(find(CHILD, false, ONE), 15);
 }
 
+/* ---- lookups of one place, which has two notes ---- */
+
+enum { PLACED = 100, HERE = 5 };
+static uint32_t here[HERE] = {21, 65533, 65534, 70000, 0}; /* of the last there is no method */
+
+static uint32_t sel_here(int i) { return PLACED + (uint32_t)i * MSG_NOTES; }
+
+static void find_here(int one, int other)
+{
+    WANT(find(CHILD, false, sel_here(one)), here[one]);
+    WANT(find(CHILD, false, sel_here(other)), here[other]);
+}
+
+static uint64_t fills(void)
+{
+    struct msg_report_row report = {0};
+    WANT(msg_process_lock(&runtime), MSG_DONE);
+    WANT(msg_report(runtime, &report), MSG_DONE);
+    msg_process_unlock();
+    return report.fills;
+}
+
+/* Both stay noted, also under the lock, until a change. A first note that says no method is asked
+ * again on the slow way. The other may put out the one, if that was noted before; so they are found
+ * twice. */
+static void two_of_a_place(int one, int other)
+{
+    bool are_methods = here[one] && here[other];
+    for (int i = 0; i < 2; i++) find_here(one, other);
+    uint64_t turns = msg_process_own.turns, filled = fills();
+    for (int i = 0; i < 10; i++) find_here(one, other);
+    if (are_methods) WANT(msg_process_own.turns, turns);
+    WANT(fills(), filled);
+    WANT(msg_process_lock(&runtime), MSG_DONE);
+    find_here(one, other);
+    msg_process_unlock();
+    for (int i = 0; i < 2 && are_methods; i++) {
+        int changed = i ? one : other;
+        WANT(set(CHILD, false, sel_here(changed), ++here[changed]), MSG_DONE);
+        find_here(one, other);
+    }
+}
+
+/* Each puts out the older of the others. */
+static void three_of_a_place(void)
+{
+    for (int i = 1; i < 20; i++) {
+        uint64_t turns = msg_process_own.turns;
+        WANT(find(CHILD, false, sel_here(i % 3)), here[i % 3]);
+        WANT(msg_process_own.turns, turns + 1);
+    }
+}
+
+/* Twice each two of an odd number: so each is noted first, and second. */
+static void of_a_place(void)
+{
+    for (int i = 0; i < HERE; i++)
+        if (here[i]) WANT(set(CHILD, false, sel_here(i), here[i]), MSG_DONE);
+    for (int i = 0; i < 2 * HERE; i++) two_of_a_place(i % HERE, (i + 1) % HERE);
+    three_of_a_place();
+}
+
 /* ---- handlers ---- */
 
 static volatile uint32_t handled[4];
@@ -390,13 +452,14 @@ static void fork_and_wait(bool holds)
 
 static atomic_bool asks_on, is_asking;
 
-/* Two selectors that are noted at one place, and both cached: so it is in a call without the
- * lock nearly always. */
+/* Three selectors of one place, which has two notes, and all cached: so it is in a call without
+ * the lock nearly always. */
 static void *ask(void *none)
 {
     while (asks_on) {
         WANT(find(CHILD, false, ONE), 15);
         WANT(find(CHILD, false, ONE + MSG_NOTES), 0);
+        WANT(find(CHILD, false, ONE + 2 * MSG_NOTES), 0);
         is_asking = true;
     }
     return none;
@@ -444,6 +507,7 @@ int main(void)
     noted();
     listed();
     locked();
+    of_a_place();
     handlers();
     threads();
     pthread_barrier_init(&sits, NULL, 2);

@@ -19,17 +19,19 @@
 #ifdef __x86_64__
 #include "stepping.h"
 
-/* List number `v` gives the first of these lookups the number v, and the others FAR more each. Two
- * of them are noted at one place. */
-enum { ONE = 1, OTHER = ONE + MSG_NOTES, FAR = 10000, COUNT = 3, SENDERS = 6, MOST = 1000 };
-static const msg_lookup_row lookups[COUNT] = {{0, 0, ONE}, {0, 0, OTHER}, {1, 1, ONE}};
+/* List number `v` gives the first of these lookups the number v, and the others FAR more each.
+ * Three of them are noted at one place, which has two notes. */
+enum { ONE = 1, OTHER = ONE + MSG_NOTES, THIRD = OTHER + MSG_NOTES };
+enum { FAR = 10000, COUNT = 4, SENDERS = 6, MOST = 1000 };
+static const msg_lookup_row lookups[COUNT] = {
+    {0, 0, ONE}, {0, 0, OTHER}, {0, 0, THIRD}, {1, 1, ONE}};
 
 enum { FINDS, FINDS_AT_ONCE, FINDS_ALL, RESTS, GOES, ASKS, ENDS };
-enum { NOTED, CHANGED, AWAY, FIRST, WITHOUT, STATES };
+enum { NOTED, SECOND, CHANGED, AWAY, FIRST, WITHOUT, STATES }; /* noted first, or second */
 enum { FINDS_TOO, RESTS_TOO, CHANGES, KINDS };
 static const char *const acts[] = {"find", "find at once", "find all", "rest",
                                    "away", "ask",          "end"};
-static const char *const states[] = {"noted", "changed", "away", "first", "without"};
+static const char *const states[] = {"noted", "second", "changed", "away", "first", "without"};
 static const char *const kinds[] = {"finds", "rests", "changes"};
 
 static uint32_t version;      /* the newest list */
@@ -115,7 +117,7 @@ static uint32_t find(bool in_handler, bool once)
 
 static void are_of_one(const uint32_t *imps, uint32_t least)
 {
-    want("of two lists", imps[1] == imps[0] + FAR && imps[2] == imps[1] + FAR);
+    for (int i = 1; i < COUNT; i++) want("of two lists", imps[i] == imps[i - 1] + FAR);
     is_right(imps[0], least);
 }
 
@@ -235,13 +237,31 @@ static void end_end(void *unused)
 
 /* ---- each of all ---- */
 
+static bool is_noted_in(bool second)
+{
+    uint64_t key = msg_key(0, ONE);
+    const msg_sender *sender = msg_process_own.sender;
+    const msg_note *note = second ? MSG_SECOND_NOTE_OF(sender, key) : MSG_NOTE_OF(sender, key);
+    return msg_said(note, key) < MSG_SAID_NONE;
+}
+
+/* The first lookup: of three in turns each is noted first at times, and second. */
+static void note_in(bool second)
+{
+    uint32_t imp;
+    find_all(false);
+    for (int i = 1; i < 10 && !is_noted_in(second); i++)
+        want("in turns", !msg_process_find(0, false, lookups[i % 3].sel, &imp));
+    want("where it is noted", is_noted_in(second));
+}
+
 static void *do_and_settle(void *none)
 {
     own = own_number();
     in_use = 0;
     floor_ = counts[version];
-    if (state == NOTED || state == CHANGED || state == AWAY) {
-        find_all(false);
+    if (state < FIRST) {
+        note_in(state == SECOND);
         want("a rest", !msg_process_rest());
         be_in(find(false, false));
     }

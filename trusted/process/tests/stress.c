@@ -28,7 +28,8 @@
 #include <unistd.h>
 
 enum { FINDERS = 16, CHANGERS = 4, BEGINNERS = 6, SENDERS = 26, CLASSES = 512, TREES = 4 };
-enum { METHODS = 16, PATIENCE = 200, CHILDS_PATIENCE = 60 };
+enum { PLACES = 8, OF_A_PLACE = 3, METHODS = PLACES * OF_A_PLACE };
+enum { PATIENCE = 200, CHILDS_PATIENCE = 60 };
 #ifndef SECONDS
 #define SECONDS 5
 #endif
@@ -58,10 +59,10 @@ static uint32_t below(uint32_t limit)
     return (uint32_t)((uint64_t)drawn * limit >> 32);
 }
 
-/* Two methods of a class are noted at one place. */
+/* Three methods of a class are noted at one place, which has two notes. */
 static uint32_t selector(long method)
 {
-    return 1 + (uint32_t)method % 8 + MSG_NOTES * ((uint32_t)method / 8);
+    return 1 + (uint32_t)method % PLACES + MSG_NOTES * ((uint32_t)method / PLACES);
 }
 static uint32_t root_of(long method) { return (uint32_t)method % TREES; }
 static bool is_of_class(long method) { return method / TREES % 2; }
@@ -104,14 +105,17 @@ static void find(uint32_t class_, long method, bool may_hold)
     if (!fault && step + METHODS <= stored) ahead++;
 }
 
-/* The same by two classes, or two methods of a place. */
-static void find_some(bool may_hold)
+/* The same by two classes, and by the second two methods of its place, or all three. Returns how
+ * many finds that were. */
+static int find_some(bool may_hold)
 {
     long method = below(METHODS);
-    uint32_t count = (uint32_t)made;
+    uint32_t count = (uint32_t)made, class_ = below(8);
+    int others = 1 + (int)below(OF_A_PLACE - 1);
     find(below(count), method, may_hold);
-    find(below(8), method, may_hold);
-    find(below(8), (method + METHODS / 2) % METHODS, may_hold);
+    for (int i = 0; i <= others; i++)
+        find(class_, (method + i * PLACES) % METHODS, may_hold);
+    return 2 + others;
 }
 
 static void want(uint32_t fault, uint32_t wanted)
@@ -144,8 +148,8 @@ static void *find_on(void *number)
 {
     long count = 0;
     begin_thread((long)number);
-    for (; !is_over; count += 3) {
-        find_some(false);
+    while (!is_over) {
+        count += find_some(false);
         rest_at_times();
     }
     answers += count;

@@ -6,7 +6,7 @@
 use core::ffi::c_void;
 use core::sync::atomic::{AtomicU64, Ordering};
 
-/// How many notes a sender has.
+/// How many places a sender has, with two notes each.
 pub const MSG_NOTES: usize = 4096;
 /// Of slots below this keys are one to one.
 pub const SLOTS: u32 = 67_108_864;
@@ -23,8 +23,8 @@ pub struct msg_note {
     pub count: u64,
     /// An implementation's number.
     pub imp: u32,
-    /// Nothing.
-    pub spare: u32,
+    /// The same in both notes of a place where the second one is the newer: 0 or 1.
+    pub parity: u32,
     /// Where the stamp of its class lies: bytes after the first of the shared words.
     pub stamp: u64,
 }
@@ -45,8 +45,10 @@ pub struct msg_sender {
     pub at: *mut c_void,
     /// Whether it is open.
     pub open: bool,
-    /// What the sender has noted.
+    /// The first note at each place.
     pub notes: [msg_note; MSG_NOTES],
+    /// The second one.
+    pub second_notes: [msg_note; MSG_NOTES],
 }
 
 /// The handle of texts.
@@ -530,13 +532,13 @@ pub const fn msg_key(slot: u32, sel: u32) -> u64 {
         .wrapping_add(sel as u64 * KEY_OF_SEL)
 }
 
-// Where what is noted of a key lies.
+// The first note at the place of a key.
 #[inline]
 unsafe fn note_of(sender: *const msg_sender, key: u64) -> *const msg_note {
     &(*sender).notes[(key / KEY_OF_SEL) as usize % MSG_NOTES]
 }
 
-/// What the note at the one place of a key says of its lookup: a number below `SAID_LONG`, `SAID_LONG`,
+/// What a note at the place of a key says of its lookup: a number below `SAID_LONG`, `SAID_LONG`,
 /// `SAID_NONE`, or anything else, which is nothing.
 ///
 /// # Safety
@@ -557,7 +559,8 @@ pub unsafe fn msg_stamp_of(words: *const u64, note: *const msg_note) -> u64 {
     (*stamp.cast::<AtomicU64>()).load(Ordering::SeqCst)
 }
 
-/// Returns what is noted of a key since the stamp of its class, without a call: 0 if nothing is, or for forwarding.
+/// Returns what the first note at a key's place says of it since the stamp of its class, without a call: 0 if it says
+/// nothing, or for forwarding.
 ///
 /// # Safety
 /// The sender is open and in no call, and the words are its runtime's.
@@ -573,7 +576,7 @@ pub unsafe fn msg_recall_key(sender: *const msg_sender, words: *const u64, key: 
     }
 }
 
-/// Whether it is noted that there is no method.
+/// Whether the first note at a key's place says that there is no method.
 ///
 /// # Safety
 /// The sender is open and in no call, and the words are its runtime's.
@@ -584,7 +587,7 @@ pub unsafe fn msg_recall_none_key(sender: *const msg_sender, words: *const u64, 
     (*note).count >= stamp && msg_said(note, key) == SAID_NONE
 }
 
-/// The same, of a slot and a selector.
+/// `msg_recall_key` of a slot and a selector.
 ///
 /// # Safety
 /// The sender is open and in no call, and the words are its runtime's.
@@ -604,6 +607,6 @@ pub unsafe fn msg_recall_inline(
 
 use core::mem::size_of;
 const _: () =
-    assert!(size_of::<msg_note>() == 32 && size_of::<msg_sender>() == 16 + 32 * MSG_NOTES);
+    assert!(size_of::<msg_note>() == 32 && size_of::<msg_sender>() == 16 + 64 * MSG_NOTES);
 const _: () = assert!(size_of::<msg_change>() == 32);
 const _: () = assert!(size_of::<msg_lookup_row>() == 12);

@@ -113,8 +113,8 @@ impl Sender {
         })
     }
 
-    /// Returns what is noted since the stamp of the class reference, without a call: None if nothing is noted, or if
-    /// the lookup found no method.
+    /// Returns what the first note at the lookup's place says since the stamp of the class reference, without a call:
+    /// None if it says nothing, or that no method is found. Then the second one may say it, which `find` looks at, too.
     #[inline]
     pub fn recall(&self, of: ClassRef, selector: Selector) -> Option<Imp> {
         let words = self.shared.words.0;
@@ -132,7 +132,8 @@ impl Sender {
         Imp::new(unsafe { sys::msg_recall(&*self.raw, slot, selector.get(), since) } as u32)
     }
 
-    /// Whether it is noted since the stamp of the class reference that no method is found, without a call.
+    /// Whether the first note at the lookup's place says since the stamp of the class reference that no method is found,
+    /// without a call.
     #[inline]
     pub fn recalls_none(&self, of: ClassRef, selector: Selector) -> bool {
         of.has_slot()
@@ -189,7 +190,7 @@ fn row(of: ClassRef, selector: Selector) -> sys::msg_lookup_row {
     }
 }
 
-/// A closed sender, made in place: 128 KiB would be much of a small stack.
+/// A closed sender, made in place: 256 KiB would be much of a small stack.
 fn closed() -> Box<sys::msg_sender> {
     let layout = Layout::new::<sys::msg_sender>();
     // SAFETY: zero bytes are a closed sender, and the layout is that of the box.

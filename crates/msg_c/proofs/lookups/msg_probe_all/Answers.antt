@@ -1,7 +1,7 @@
-use Rattle.std.proofs.Common.{◌≡◌, ◌∙◌, Some, ap, rules, subst, sym}
+use Rattle.std.proofs.Common.{◌≡◌, ◌∙◌, Some, ap, length, rules, subst, sym}
 use Rattle.std.specs.Prelude.{Option, unwrap_or}
-use Rattle.msg_cache.specs.Views.{ArenaView}
-use Rattle.msg_host.specs.Lookups.{RowsKeepOthers, RowsLackOne, RowsMissOne}
+use Rattle.msg_cache.specs.Views.{ArenaView, classes}
+use Rattle.msg_host.specs.Lookups.{AreRefusedLookups, RowsAreNoted, RowsKeepOthers, RowsLackOne, RowsMissOne}
 use Rattle.msg_host.specs.View.{SenderView}
 use Rattle.msg_c.specs.Answers.{sender_arena}
 use Rattle.msg_c.proofs.NoteLemmas.{notes_left}
@@ -42,3 +42,17 @@ returns-in-Ok-false-clause-others c a arena =
     let sender : sender_arena c.args.sender.now.held.state ≡ Some c.deref_mut.result.now.arena = ap sender_arena c.take-asker.ensures.taken ∙ ap (λ (v : SenderView). Some v.arena) (sym c.deref_mut.ensures.value) in
     let same : c.deref_mut.result.now.arena ≡ a = ap (λ (o : Option ArenaView). unwrap_or o a) (sym sender ∙ arena) in
     subst (λ (b : ArenaView). RowsKeepOthers b c.args.sender.now.notes c.probe_all-found.new.notes c.args.lookups.now) same (search rules)
+
+pub returns-in-Ok-true-clause-noted : goal.returns-in-Ok-true-clause-noted
+returns-in-Ok-true-clause-noted c done u w was is =
+    let before : c.deref_mut.result.now ≡ u = search rules in
+    let after : c.probe_all-found.new.self ≡ w = search rules in
+    subst (λ (v : SenderView). RowsAreNoted v.arena c.probe_all-found.new.notes v.seen w.seen c.args.lookups.now c.probe_all-found.new.imps) before
+    (subst (λ (v : SenderView). RowsAreNoted c.deref_mut.result.now.arena c.probe_all-found.new.notes c.deref_mut.result.now.seen v.seen c.args.lookups.now c.probe_all-found.new.imps) after
+    (c.probe_all-found.ensures.noted (search rules)))
+
+pub returns-in-Err-clause-fault : goal.returns-in-Err-clause-fault
+returns-in-Err-clause-fault c some other a arena =
+    let sender : sender_arena c.args.sender.now.held.state ≡ Some c.deref_mut.result.now.arena = ap sender_arena c.take-asker.ensures.taken ∙ ap (λ (v : SenderView). Some v.arena) (sym c.deref_mut.ensures.value) in
+    let same : c.deref_mut.result.now.arena ≡ a = ap (λ (o : Option ArenaView). unwrap_or o a) (sym sender ∙ arena) in
+    subst (λ (b : ArenaView). AreRefusedLookups (classes b) c.args.lookups.now (length c.args.imps.now) c.args.place.now c.probe_all-found.new.place c.in-Err.number) same c.in-Err.ensures.err

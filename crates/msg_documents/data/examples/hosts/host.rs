@@ -13,6 +13,7 @@ struct Handle {
 struct SenderHandle {
     handle: Handle,
     notes: [Note; 4096],
+    second_notes: [Note; 4096],
 }
 
 #[repr(C)]
@@ -21,7 +22,7 @@ struct Note {
     word: u64,
     count: u64,
     imp: u32,
-    spare: u32,
+    parity: u32,
     stamp: u64,
 }
 
@@ -42,7 +43,7 @@ pub struct Config {
     pub arrays: [u32; 9],
 }
 
-const BLANK: Note = Note { word: 0, count: 0, imp: 0, spare: 0, stamp: 0 };
+const BLANK: Note = Note { word: 0, count: 0, imp: 0, parity: 0, stamp: 0 };
 
 const CLOSED: Handle = Handle { at: std::ptr::null_mut(), open: false };
 const DONE: u32 = 0;
@@ -101,7 +102,8 @@ impl Runtime {
     /// By its lifetime the sender goes to calls on this runtime alone, and is closed before it.
     pub fn sender(&self) -> Result<Sender<'_>, u32> {
         assert_eq!(size_of::<SenderHandle>(), unsafe { msg_sender_size() });
-        let mut raw = Box::new(SenderHandle { handle: CLOSED, notes: [BLANK; 4096] });
+        let notes = [BLANK; 4096];
+        let mut raw = Box::new(SenderHandle { handle: CLOSED, notes, second_notes: notes });
         let fault = unsafe { msg_sender_open(&mut *self.raw.lock().unwrap(), &mut *raw) };
         answer(fault, ())?;
         Ok(Sender { runtime: self, raw })

@@ -172,7 +172,9 @@ static uint32_t sent(msg_sender *sender, uint32_t number, bool meta, uint32_t se
 static void compare_stamp(msg_sender *sender, uint32_t number, bool meta, uint32_t sel)
 {
     uint64_t stamp = 0;
-    const msg_note *note = MSG_NOTE_OF(sender, msg_key(slot(number, meta), sel));
+    uint64_t key = msg_key(slot(number, meta), sel);
+    const msg_note *note = MSG_NOTE_OF(sender, key);
+    if (msg_said(note, key) > MSG_SAID_NONE) note = MSG_SECOND_NOTE_OF(sender, key);
     done("stamp", msg_stamp(sender, number, meta, &stamp));
     if (msg_stamp_of(words, note) != stamp) puts("a note says the stamp of another class");
 }

@@ -2,7 +2,8 @@ use Rattle.std.proofs.Common.{◌≡◌, ℕ, zero, suc, Bool, true, false, Some
 use Rattle.std.specs.Prelude.{◌==◌, if◌then◌else◌, nat_lt}
 use Rattle.msg_names.specs.Number.{selector_number, selector_of}
 use Rattle.msg_names.specs.declared.value.ClassRef.{ClassRef}
-use Rattle.msg_reader.specs.Kept.{HaveNotedSince}
+use Rattle.msg_cache.specs.Views.{ArenaView}
+use Rattle.msg_reader.specs.Kept.{HaveNotedSince, MissesUnlessChanged}
 use Rattle.msg_host.specs.Asking.{ask_fault}
 use Rattle.msg_host.specs.declared.fault.AskFault.TheVariants.{NoClass, NoSelector}
 use Rattle.msg_host.proofs.sender.HostedSender.probe.Goals as goal
@@ -21,3 +22,9 @@ returns-in-Some-clause-noted c =
     let asked = c.in_ok-class.ensures.ok in
     let sel = ap selector_number asked.2 ∙ named c.class_count.result c.args.class c.args.sel c.in_ok-class.ensures.none in
     subst (λ (x : ClassRef × ℕ × ℕ). HaveNotedSince c.try_find.new.notes x.0 x.1 c.try_find.new.self.seen x.2) (λ k. (asked.1 k, sel k, sym c.number.ensures k)) c.in-Some.ensures.noted
+
+pub returns-in-None-clause-missed : goal.returns-in-None-clause-missed
+returns-in-None-clause-missed c =
+    let asked = c.in_ok-class.ensures.ok in
+    let sel = ap selector_number asked.2 ∙ named c.class_count.result c.args.class c.args.sel c.in_ok-class.ensures.none in
+    subst (λ (x : ArenaView × ClassRef × ℕ). MissesUnlessChanged x.0 x.1 x.2 c.args.self.now.seen c.try_find.new.self.seen) (λ k. (c.in-None.ensures.arena k, asked.1 k, sel k)) c.in-None.ensures.missed

@@ -5,7 +5,7 @@ use Rattle.msg_names.specs.Number.{imp_number, selector_number}
 use Rattle.msg_tables.proofs.BeginsLemmas.{begins_refl, begins_trans}
 use Rattle.msg_reader.specs.Several.{IsNotedAmong, found_of}
 use Rattle.msg_reader.proofs.ReaderLemmas.{as_long, missed_before}
-use Rattle.msg_reader.proofs.SeveralLemmas.{first_is, found_next, lack_next, more_more, noted_next, noted_on, noted_one, noted_whole, stay_next}
+use Rattle.msg_reader.proofs.SeveralLemmas.{first_is, found_next, lack_next, more_more, noted_next, noted_on, noted_one, noted_whole, stay_next, stay_on}
 use Rattle.msg_reader.proofs.reader.Reader.try_find_all.Goals as goal
 
 pub loop-place-init : goal.loop-place-init
@@ -18,7 +18,7 @@ loop-place-init g c = record {
   found = refl;
   stamps = ([], c.refresh-count.ensures.stamps);
   looks = c.refresh-count.ensures.looked;
-  others = λ place none. refl;
+  others = λ place none. (refl, refl);
   noted = λ place k i lt. absurd (omega (arith, lt));
   stays = inl refl;
 }
@@ -65,7 +65,7 @@ loop-place-preserved g c =
       found = found_next start ks c.loop-place.imps place k c.number.result inside c.get-lookup.ensures is c.loop-place.invariant.found;
       stamps = more_more v u w c.loop-place.invariant.stamps c.try_find_after.ensures.stamps;
       looks = c.try_find_after.ensures.looks ∙ c.loop-place.invariant.looks;
-      others = λ p none. c.try_find_after.ensures.others p (none k (place, c.get-lookup.ensures)) ∙ c.loop-place.invariant.others p none;
+      others = λ p none. stay_on c.args.notes.now c.loop-place.notes c.try_find_after.new.notes p (c.loop-place.invariant.others p none) (c.try_find_after.ensures.others p (none k (place, c.get-lookup.ensures)));
       noted = noted_next (IsNotedAmong c.loop-place.notes v u) (IsNotedAmong c.try_find_after.new.notes v w) ks c.loop-place.imps place k c.number.result c.get-lookup.ensures
           (noted_one c.try_find_after.new.notes v u w k c.number.result c.loop-place.invariant.stamps noted)
           (λ j x. noted_on c.loop-place.notes c.try_find_after.new.notes v u w k j x c.try_find_after.ensures.others c.try_find_after.ensures.stamps) c.loop-place.invariant.noted;
@@ -77,3 +77,8 @@ returns-clause-noted g c = λ some.
     let ks = g.L.LookupList.lookups c.args.lookups.now in
     let all : length ks ≤ c.loop-place.place = omega (arith, c.loop-place-test.false, c.len-place-end.ensures.count) in
     noted_whole (IsNotedAmong c.loop-place.notes c.args.self.now.sender c.loop-place.self.sender) ks c.loop-place.imps c.loop-place.place all c.loop-place.invariant.noted
+
+pub returns-in_default-clause-others : goal.returns-in_default-clause-others
+returns-in_default-clause-others g c = λ p none.
+    stay_on c.args.notes.now c.loop-place.notes c.try_find_after.new.notes p (c.loop-place.invariant.others p none)
+    (c.try_find_after.ensures.others p (none c.get-lookup.result (c.loop-place.place, c.get-lookup.ensures)))

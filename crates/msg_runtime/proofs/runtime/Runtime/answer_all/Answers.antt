@@ -8,7 +8,7 @@ use Rattle.msg_cache.specs.declared.view.KeeperView.{KeeperView}
 use Rattle.msg_reader.specs.Notes.{StayStamped}
 use Rattle.msg_reader.specs.Several.{IsNotedOrAt, found_of}
 use Rattle.msg_reader.specs.declared.lookup.Lookup.{Lookup}
-use Rattle.msg_reader.proofs.SeveralLemmas.{found_next, found_whole, more_more, noted_next, noted_or_later, noted_or_on, noted_or_one, noted_whole, same_both}
+use Rattle.msg_reader.proofs.SeveralLemmas.{found_next, found_whole, more_more, noted_next, noted_or_later, noted_or_on, noted_or_one, noted_whole, same_both, stay_on}
 use Rattle.msg_runtime.proofs.runtime.Runtime.answer_all.Goals as goal
 
 pub loop-place-init : goal.loop-place-init
@@ -29,7 +29,7 @@ loop-place-init g c =
       notes = c.notes_are_of_longer_histories.ensures sees saw c.args.notes.now on c.requires.notes;
       stamped = λ are. are;
       stamps = ([], c.meet.ensures.stamps);
-      others = λ place none. refl;
+      others = λ place none. (refl, refl);
       noted = λ place k i lt. absurd (omega (arith, lt));
       places = c.requires.places;
       found = λ b. refl;
@@ -74,7 +74,7 @@ loop-place-preserved g c =
       notes = e.notes;
       stamped = λ are. subst (λ (a : ArenaView). StayStamped (layout a) c.loop-place.notes c.recall_or_answer-imp.new.notes) inv.arena e.stamped (inv.stamped are);
       stamps = more_more v u w inv.stamps e.stamps;
-      others = λ p none. e.others p (none k (place, c.get-lookup.ensures)) ∙ inv.others p none;
+      others = λ p none. stay_on c.args.notes.now c.loop-place.notes n p (inv.others p none) (e.others p (none k (place, c.get-lookup.ensures)));
       noted = noted_next (IsNotedOrAt h c.loop-place.notes v u) (IsNotedOrAt h n v w) ks c.loop-place.imps place k c.number.result c.get-lookup.ensures
           (noted_or_one h n n v u w k c.number.result inv.stamps noted)
           (λ j x. noted_or_on h c.loop-place.notes n v u w k j x e.others e.stamps) inv.noted;

@@ -1,4 +1,4 @@
-use Rattle.std.proofs.Common.{◌≡◌, ℕ, List, Option, Some, None, Bool, true, false, cond, refl, sym, ap, ◌∙◌, subst}
+use Rattle.std.proofs.Common.{◌≡◌, ℕ, List, Option, Some, Bool, true, false, cond, refl, sym, ap, ◌∙◌, subst}
 use Rattle.std.specs.Prelude.{◌==◌, ◌&&◌, ◌||◌, drop, not, is_some, is_none}
 use Rattle.std.specs.Option.{option_map_or}
 use Rattle.msg_names.specs.declared.value.ClassRef.{ClassRef}
@@ -17,12 +17,6 @@ use Rattle.msg_tables.proofs.tables.Tables.below.Goals as goal
 and-all : (b : Bool) → (b && true) ≡ b
 and-all true = refl
 and-all false = refl
-
-none-of : (o : Option ℕ) (b : Bool) → is_some o ≡ not b → b ≡ is_none o
-none-of None true e = refl
-none-of None false e = cc
-none-of (Some x) true e = cc
-none-of (Some x) false e = refl
 
 and-none : (b : Bool) → (b && false) ≡ false
 and-none true = refl
@@ -67,9 +61,11 @@ returns-clause-below c = λ h stands d.
     let supers = c.self.inside.supers.items in
     let inside = rw (← c.self.view_is) at c.requires.class in
     let here : presence_of supers c.args.class.class ≡ Some c.in-Some.presence = sym (read-presence supers c.args.class.class c.index.result.now inside c.index.ensures) ∙ c.in-Some.is in
-    let root : is_root supers c.args.class.class ≡ c.is_none.result = ap (λ o. option_map_or (λ (p : Presence). is_none p.superclass) o true) here ∙ sym (none-of c.in-Some.presence.superclass c.is_none.result c.is_none.ensures) in
+    let none = is_none c.in-Some.presence.superclass in
+    let root : is_root supers c.args.class.class ≡ none = ap (λ o. option_map_or (λ (p : Presence). is_none p.superclass) o true) here in
     let same = ap (λ (t : TablesView). t.supers) c.self.view_is ∙ stands.supers in
-    below-of supers c.self.inside.order.items c.self.invariant.order c.args.class c.is_none.result c.from.result root (c.from.ensures.below supers c.self.invariant.preorder (ap is_some here)) d
+    ap (λ meta. cond d.meta meta (not c.args.class.meta) && is_in d.class c.from.result) c.has_metaclasses.ensures
+    ∙ below-of supers c.self.inside.order.items c.self.invariant.order c.args.class none c.from.result root (c.from.ensures.below supers c.self.invariant.preorder (ap is_some here)) d
     ∙ descends-at h supers c.args.class d same
 
 pub returns-clause-classes : goal.returns-clause-classes
