@@ -93,7 +93,10 @@ void msg_process_cache(uint64_t key);
  * lock once. */
 uint32_t msg_process_rest(void);
 /* A rest before the thread waits for long. Until its next find, which takes the
- * lock, no host waits for it.
+ * lock, no host waits for it. A find in a handler of a signal is one, too, also
+ * if the thread never found before. Hosts then wait until the thread rests, is
+ * away again, or ends. So block such signals in threads that don't rest. Or let
+ * the wait end at the signal, and call this again.
  *
  * Faults: MSG_CLOSED before the start, and MSG_LOCK_HELD under the lock. */
 uint32_t msg_process_away(void);

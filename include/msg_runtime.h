@@ -19,10 +19,14 @@
  * otherwise. It names all of its faults but MSG_CLOSED, which every call that
  * takes a handle returns if the handle isn't open. After a fault nothing has
  * changed and nothing was written through a pointer, unless the call says so.
- * After MSG_MISSED the sender may have seen more changes. A handle that is
- * closed, or opened twice, and numbers that belong to nobody are refused by a
- * fault. No call panics or aborts, except by an assert of MSG_CHECK. No call
- * waits, except msg_find and msg_find_all, which take the lock after a miss.
+ * After MSG_MISSED the sender may have seen more changes. No call panics or
+ * aborts, except by an assert of MSG_CHECK. No call waits, except msg_find and
+ * msg_find_all, which take the lock after a miss.
+ *
+ * These get a fault: a handle that is closed, or opened twice, a class number
+ * that isn't reserved, selector 0 and implementation 0. A lookup in a class
+ * that isn't made, or of a selector that nobody has, finds 0 without a fault.
+ * Any other number of an implementation is accepted.
  *
  * Trust. Nothing checks a C program, so a host is TRUSTED with these rules:
  *
@@ -47,6 +51,8 @@
  *   - A sender goes only to calls on the runtime that it was opened from. (This
  *     is the one `requires` that no call can test.)
  *   - malloc, realloc and free are the C library's, and there is enough stack.
+ *     No proof bounds how much. Threads that find have run with as little as
+ *     64 KiB (trusted/process/measure/rests.c).
  *   - No call is made in a signal handler, or in the forked child of a process
  *     with threads. msg_process.h does that, with a lock and a sender for each
  *     thread.
@@ -100,8 +106,8 @@ typedef struct {
 
 /* How many places a sender has for notes, each of two: a first and a second
  * one. A lookup has one place. If both notes there are of others, the older one
- * is put out. No note is moved. All are in the handle, which has 256 KiB. */
-enum { MSG_NOTES = 4096 };
+ * is put out. No note is moved. All are in the handle, which has 512 KiB. */
+enum { MSG_NOTES = 8192 };
 
 /* Handles. A sender is for one thread. Align an array of them to 64 bytes by
  * its type, as in struct { _Alignas(64) msg_sender sender; }, so that no two
@@ -113,6 +119,8 @@ typedef struct {
 typedef struct {
     void *at;
     bool open;
+    bool written[64];   /* the library's: which 128 places have notes */
+    uint64_t unused[2]; /* so that no note lies on two lines of the cache */
     msg_note notes[MSG_NOTES];
     msg_note second_notes[MSG_NOTES];
 } msg_sender;
@@ -122,7 +130,8 @@ typedef struct {
 } msg_texts;
 /* clang-format off */
 #define MSG_RUNTIME_INIT {0, 0}
-#define MSG_SENDER_INIT {0, 0, {{0, 0, 0, 0, 0}}, {{0, 0, 0, 0, 0}}}
+#define MSG_SENDER_INIT \
+    {0, 0, {0}, {0}, {{0, 0, 0, 0, 0}}, {{0, 0, 0, 0, 0}}}
 #define MSG_TEXTS_INIT {0, 0}
 /* clang-format on */
 
@@ -244,7 +253,8 @@ enum {
 uint32_t msg_open_words(msg_runtime *runtime, const uint32_t *config,
                         size_t words);
 /* Closes a runtime and gives its memory back. Senders that are still open keep
- * what they share with it, and may be closed later. */
+ * what they share with it, and may be closed later. A find by one of them may
+ * still hit: stop the threads that send first. */
 uint32_t msg_close(msg_runtime *runtime);
 
 /* ---- asking, under the lock ---- */
@@ -407,9 +417,10 @@ uint32_t msg_change_all(msg_runtime *runtime, const msg_change *changes,
  * refused. Or they are accepted, and overwrite or remove what others put there.
  * So such lists are taken back in reverse order.
  *
- * Each accepted list has a way back. It has a change for each method that the
- * list adds, writes or takes away, and for each class that it makes or takes
- * away.
+ * Each accepted list has a way back. It has a change each time that the list
+ * adds, writes or takes away a method, or makes or takes away a class. The same
+ * one again counts again. MSG_EXCHANGES writes two methods, and
+ * MSG_DISPOSES_CLASS takes away each that the class and its metaclass have.
  *
  * Faults: those of msg_change_all, and MSG_NO_ROOM if the way back has more
  * than `room` changes. Then nothing is made, and `undone` is set to how much
@@ -612,7 +623,7 @@ uint32_t msg_type_member(const uint8_t *text, size_t length, uint64_t before,
 #endif
 MSG_IS_SO(sizeof(msg_note) == 32);
 MSG_IS_SO(offsetof(msg_note, stamp) == 24);
-MSG_IS_SO(sizeof(msg_sender) == 16 + 64 * MSG_NOTES);
+MSG_IS_SO(sizeof(msg_sender) == 96 + 64 * MSG_NOTES);
 MSG_IS_SO(sizeof(msg_config) == 44);
 MSG_IS_SO(sizeof(msg_change) == 32);
 MSG_IS_SO(offsetof(msg_change, number) == 4 && offsetof(msg_change, sel) == 12);
@@ -724,20 +735,20 @@ static inline const char *msg_fault_text(uint32_t fault)
 /* Of slots below this keys are one to one, as they are of any class. And of a
  * key its slot, its selector, and where its two notes lie. */
 #define MSG_SLOTS 67108864 /* 2^26 */
-/* 2^36 + 2^4 * 1,449: more than all selectors take, and 1,449 notes on */
-#define MSG_KEY_OF_SLOT UINT64_C(68719499920)
-#define MSG_KEY_OF_SEL UINT64_C(16)
+/* 2^35 + 2^3 * 3,849: more than all selectors take, and 3,849 notes on */
+#define MSG_KEY_OF_SLOT UINT64_C(34359769160)
+#define MSG_KEY_OF_SEL UINT64_C(8)
 #define MSG_SLOT_OF(key) ((uint32_t)((key) / MSG_KEY_OF_SLOT - 1))
 #define MSG_SEL_OF(key) ((uint32_t)((key) % MSG_KEY_OF_SLOT / MSG_KEY_OF_SEL))
 #define MSG_NOTE_OF(sender, key) \
     ((const msg_note *)(const void *)((const char *)(sender)->notes + \
-                                      2 * (uint16_t)(key)))
+                                      4 * (uint16_t)(key)))
 #define MSG_SECOND_NOTE_OF(sender, key) \
     ((const msg_note *)(const void *)((const char *)(sender)->second_notes + \
-                                      2 * (uint16_t)(key)))
+                                      4 * (uint16_t)(key)))
 
 /* The key of a lookup as one word, of a slot below MSG_SLOTS: its low 16 bits
- * are half of where its notes lie. It adds up: a host may keep slot *
+ * are a quarter of where its notes lie. It adds up: a host may keep slot *
  * MSG_KEY_OF_SLOT with each class and msg_key(0, sel) with each selector, and
  * add the two. No other sum is a key. */
 static inline uint64_t msg_key(uint32_t slot, uint32_t sel)

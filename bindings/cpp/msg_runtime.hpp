@@ -112,8 +112,8 @@ struct shared {
 };
 } // namespace inner
 
-// The runtime lock, held: what may be asked and changed under it. A thread that has it opens, closes and finds with no
-// sender meanwhile, and calls neither lock, lookup nor close of the runtime: it would wait for itself. The calls of
+// The runtime lock, held: what may be asked and changed under it. A thread that has it calls neither lock, lookup nor
+// close of the runtime. Nor does it open or close a sender, or find by one. It would wait for itself. The calls of
 // this class are safe.
 class locked {
 public:
@@ -122,9 +122,10 @@ public:
 
     std::uint32_t class_count() { return told<std::uint32_t>(msg_class_count); }
     std::uint64_t change_count() { return told<std::uint64_t>(msg_change_count); }
-    // A count of changes: as many as every open sender had seen when it rested last; all if none is open. Code that
-    // the first so many changes took out can be freed. See to it that no later change puts it back, and that no thread
-    // calls what lookup or methods returned before: that isn't counted.
+    // A count of changes: as many as every open sender had seen when it rested last, or was opened; all if none is
+    // open. Code that the first so many changes took out can be freed. You see to three things. No later change puts it
+    // back. No thread calls what lookup or methods returned before: that isn't counted. And none calls what
+    // sender::recall returned with a `since` below this count.
     std::uint64_t seen_by_all() { return told<std::uint64_t>(msg_seen_by_all); }
     msg_report_row report()
     {
@@ -470,7 +471,8 @@ public:
         must(msg_refresh(own.get(), &count));
         return count;
     }
-    // Since how many changes none has affected the class reference; the sender has then seen all.
+    // No change after so many has affected the class reference. From a change of it until its next fill (a find that
+    // misses makes one) it is 2^64 - 1: then nothing noted counts. The sender has then seen all changes.
     std::uint64_t stamp(class_ref of)
     {
         std::uint64_t count = 0;

@@ -40,6 +40,11 @@ options() {
     [ ${#places[@]} -le "$most" ] || refuse "too many words: ${places[*]}"
 }
 
+want_counts() { # WORD..
+    local word
+    for word in "$@"; do case "$word" in '' | *[!0-9]*) refuse "not a count: $word" ;; esac; done
+}
+
 wants_library() {
     case "$sanitize" in '' | address | thread | undefined) ;; *) refuse "no such sanitizer: $sanitize" ;; esac
     [ "$given" = no ] || [ -f "$archive" ] || refuse "no such file: $archive"

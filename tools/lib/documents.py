@@ -1,5 +1,5 @@
 """The documents of tools/measure/program, each heavy in one thing. A part of 1 is the whole size; the same
-part gives the same bytes each time."""
+part gives the same bytes each time. Also one of tools/test/fuzz."""
 import json
 import os
 import random
@@ -130,6 +130,27 @@ def beside(many, dice):
         items += [send(f"b{dice.randrange(32)}", "spread:", 6) for _ in range(6)]
         items.append({"change": ["replace", f"B{dice.randrange(32)}", False, "name", dice.choice(("r_name", "r_value"))]})
     return document(classes, [object_(f"b{at}", f"B{at}") for at in range(32)], worked_imps(("r_value", "r_name", "r_spread")), items)
+
+
+# how the answers of the next document end, with the lookup behind the last
+END_AT_THE_LIMIT = b"""refused at 1: limit
+ok
+refused: limit
+refused: method present
+refused: limit
+1
+  -[Root m] found in Root: imps[0]
+  lookups: 1, changes before: 65536
+"""
+
+
+def at_the_limit_of_changes():
+    """65,535 changes, all but one in lists of two. The next that is made reaches the limit."""
+    one = ["set", "Root", False, "m", "one"]
+    pair = ["all", one, one]
+    changes = [pair] * 32_767 + [one, pair, one, one, ["add", *one[1:]], ["dispose", "Root"]]
+    items = [{"change": it} for it in changes] + [send("r", "m")]
+    return dict(document([class_("Root", None, [["m", "one"]])], [object_("r", "Root")], [imp("one", 0, 1)], items), version=3, made=[])
 
 
 BESIDE_THE_PEER = (parse_heavy, send_heavy, eval_heavy, lookup_heavy, lookup_deep, lookup_poly, change_heavy, forward_heavy)

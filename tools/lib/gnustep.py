@@ -16,7 +16,6 @@ FOLDER = "/var/tmp/yeldrost-gnustep"
 DEBIAN = "http://deb.debian.org/debian"
 PACKAGES = ("gobjc-12", "gobjc", "libobjc-12-dev", "gnustep-make", "libgnustep-base-dev", "gnustep-base-runtime", "dpkg-dev", "make", "unar", "openvpn-auth-ldap", "iproute2", "valgrind")
 OWN = os.path.join(ROOT, "trusted", "objc", "gnustep")
-ENDED_BY_TIME = 124  # of timeout(1)
 NOT_APART = 121
 HIDDEN = ("/root", "/tmp", "/run")
 

@@ -425,14 +425,14 @@ class Run:
         return f"{asked} found in {'metaclass ' if holder[1] else ''}{holder[0]}: imps[{place}]{category}"
 
     def changed(self, given):
-        before, place = copy.deepcopy((self.tables.above, self.tables.rows)), 0
+        before, place = copy.deepcopy((self.tables.above, self.tables.rows, self.tables.changes)), 0
         try:
             for place, it in enumerate(given[1] if given[0] == "all" else (given,)):
                 self.tables.change(*it)
+                self.tables.changes += 1
         except Refused as refused:
-            self.tables.above, self.tables.rows = before
+            self.tables.above, self.tables.rows, self.tables.changes = before
             return f"refused at {place}: {refused}" if given[0] == "all" else f"refused: {refused}"
-        self.tables.changes += 1
         self.made += len(given[1]) if given[0] == "all" else 1
         return "ok"
 

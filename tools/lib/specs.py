@@ -16,6 +16,7 @@ HEAD = re.compile(r"^\s*((?:abbrev |unfoldable |pub |record |data )+)(" + NAME +
 MAKERS = re.compile(r"^\s+(" + NAME + r"(?: " + NAME + r")*) :")
 MARKS = ("TheVariants", "TheInside", "TheOpen", "TheConstants")
 RUST = re.compile(r"(?m)^(pub(?:\([^)]*\))? )?(struct|enum|trait|const) (\w+)")
+FUNCTION = re.compile(r'(?m)^((?: *(?:///|#\[)[^\n]*\n)*)( *)(pub(?:\([^)]*\))? )?(?:const )?(?:extern "C" )?fn (\w+)')
 RUST_USE = re.compile(r"(?m)^use ((?:crate|msg_\w+)(?:::\w+)*)::(?:(\w+)|\{([^}]*)\});")
 
 
@@ -35,6 +36,19 @@ class Item(NamedTuple):
         return self.file.endswith(".rt")
 
 
+class Function(NamedTuple):
+    """A function of src/. Its `contract` begins with its signature; a function of a trait may have no
+    body."""
+
+    file: str
+    line: int
+    name: str
+    is_public: bool
+    comment: str
+    contract: str
+    body: str
+
+
 text_of = functools.lru_cache(None)(text_at)
 
 
@@ -52,6 +66,21 @@ def files(crate, part, ending):
     for where, _, names in sorted(os.walk(os.path.join(CRATES, crate, part))):
         found += [os.path.relpath(os.path.join(where, name), ROOT) for name in sorted(names) if name.endswith(ending)]
     return tuple(found)
+
+
+@functools.lru_cache(None)
+def functions(path):
+    """Those of a file of src/, in its order."""
+    text = text_of(path)
+    found, ours = list(FUNCTION.finditer(text)), []
+    for one, end in zip(found, [*(it.start() for it in found[1:]), len(text)]):
+        above, margin, public, name = one.groups()
+        whole = text[one.start(2):end]
+        begin = re.search(rf"(?m)^{margin}\{{|(?<=\)) (?:-> \S+ )?\{{$", whole)
+        contract, body = (whole[:begin.start()], whole[begin.end():].split(f"\n{margin}}}")[0]) if begin else (whole, "")
+        comment = "\n".join(it for it in above.split("\n") if it.lstrip().startswith("///"))
+        ours.append(Function(path, text.count("\n", 0, one.start()) + 1, name, public == "pub ", comment, contract, body))
+    return tuple(ours)
 
 
 def names_in(block):
@@ -181,10 +210,9 @@ def rust_scope(path):
     return known
 
 
-def named_in(item, text=None):
+def named_in(item):
     """(items of ours, names of the kit) that a definition cites."""
-    text = item.text if text is None else text
-    plain = re.sub(r"--[^\n]*|//[^\n]*|\"[^\"]*\"", " ", text)
+    plain = re.sub(r"--[^\n]*|//[^\n]*|\"[^\"]*\"", " ", item.text)
     known, aliases = scope(item.file)
     types = rust_scope(item.file) if item.is_rust else {}
     ours, kit = [], []

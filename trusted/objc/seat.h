@@ -18,7 +18,7 @@ static inline IMP shim_function(uint32_t imp)
 
 /* A word of a note, as the instructions of x86-64 have it. Two of them are spelled longer: so the
  * jump behind them is kept within a line by prefixes, not by an instruction more. */
-#define AT_NOTE "%P[word](%[sender],%[place],2)"
+#define AT_NOTE "%P[word](%[sender],%[place],4)"
 #define LONGER "%{disp32%} "
 /* clang-format off */
 #define NOTE(field) [sender] "r"(sender), [place] "r"((uint64_t)(uint16_t)key), \

@@ -1,5 +1,6 @@
 """Each call of the header through the package, each kind of fault, and threads beside changes, with
 and without the interpreter's lock held in calls."""
+import _thread
 import gc
 import threading
 import unittest
@@ -10,6 +11,13 @@ from yeldrost import MISSED, Change, class_itself, instances_of
 ROOT, CHILD, OTHER, LATER = range(4)
 VALUE, NAME, NEW, TAKE = range(1, 5)
 ROOTS, CHILDREN, CHILD_ITSELF = instances_of(ROOT), instances_of(CHILD), class_itself(CHILD)
+
+
+def run(work):
+    """Does it in a thread, to its end."""
+    thread = threading.Thread(target=work)
+    thread.start()
+    thread.join()
 
 
 class Calls(unittest.TestCase):
@@ -62,6 +70,12 @@ class Calls(unittest.TestCase):
             self.assertRaises(yeldrost.NoSelectorError, runtime.lookup, CHILDREN, 0)
             self.assertRaises(yeldrost.OutOfRangeError, runtime.lookup, CHILDREN, 2**32 + 1)
             self.assertRaises(OverflowError, runtime.add, instances_of(-1), VALUE, 1)
+            with runtime.sender() as sender:
+                self.assertIs(MISSED, sender.recall(CHILDREN, VALUE, 2**64 - 1))
+                for count in (2**64, -1):
+                    self.assertRaisesRegex(
+                        yeldrost.OutOfRangeError, "64", sender.recall, CHILDREN, VALUE, count
+                    )
 
     def test_changes(self):
         with self.opened() as runtime:
@@ -212,6 +226,10 @@ class Calls(unittest.TestCase):
                 self.assertRaisesRegex(TypeError, "a ClassRef, or a pair", runtime.add, of, TAKE, 1)
             self.assertRaises(TypeError, sender.find, CHILDREN, "area")
             self.assertEqual(3, sender.find((CHILD, False), NAME))
+            sender.find(class_itself(OTHER), NEW)
+            for recalled in (MISSED, 4):  # as of a metaclass, and not of another class's slot
+                self.assertEqual(recalled, sender.recall((CHILD, 3), NEW, 0))
+                self.assertEqual(4, sender.find((CHILD, 3), NEW))
 
     def test_what_is_shown(self):
         with self.opened() as runtime, runtime.sender() as sender:
@@ -311,6 +329,77 @@ class Calls(unittest.TestCase):
             self.assertEqual([1], found)
             self.assertRaises(yeldrost.WrongThreadError, sender.find, CHILDREN, VALUE)
 
+    def test_a_later_thread_of_the_same_ident(self):
+        opened, idents, found = [], set(), []
+
+        def open_one():
+            opened.extend((runtime.sender(), threading.get_ident()))
+
+        def other():
+            idents.add(threading.get_ident())
+            with self.assertRaises(yeldrost.WrongThreadError):
+                opened[0].find(CHILDREN, VALUE)
+            found.append("refused")
+
+        with self.opened() as runtime:
+            run(open_one)
+            for _ in range(20):
+                run(other)
+        self.assertIn(opened[1], idents, "no ident was used again")
+        self.assertEqual(["refused"] * 20, found)
+
+    def test_who_closes_a_sender(self):
+        def leave():
+            with self.assertRaises(yeldrost.WrongThreadError):
+                sender.__exit__(None, None, None)
+            found.append(sender._finalizer.alive)
+
+        def close():
+            sender.adopt()
+            sender.close()
+
+        with self.opened(senders=1) as runtime:
+            found = []
+            with runtime.sender() as sender:
+                run(leave)
+                self.assertEqual(([True], 1), (found, sender.find(CHILDREN, VALUE)))
+                run(close)
+            with runtime.held(), runtime.sender() as sender:
+                sender.close()
+
+    def test_a_sender_that_its_thread_closes_as_it_ends(self):
+        class Holder:
+            def __init__(self):
+                self.sender = runtime.sender()
+
+            def __del__(self):
+                imp = self.sender.find(CHILDREN, VALUE)
+                self.sender.close()
+                found.append(imp)
+
+        def work():
+            own.holder = Holder()
+
+        with self.opened(senders=1) as runtime:
+            own, found = threading.local(), []
+            run(work)
+            self.assertEqual([1], found)
+            runtime.sender().close()
+
+    def test_a_thread_that_threading_did_not_start(self):
+        ended = threading.Event()
+
+        def work():
+            with runtime.sender() as sender:
+                found.append(sender.find(CHILDREN, VALUE))
+            ended.set()
+
+        with self.opened(senders=1) as runtime:
+            found = []
+            _thread.start_new_thread(work, ())
+            self.assertTrue(ended.wait(60))
+            self.assertEqual([1], found)
+
     def test_threads_beside_changes(self):
         over, wrong, all_began = threading.Event(), [], threading.Barrier(4)
 
@@ -353,6 +442,8 @@ class Calls(unittest.TestCase):
         self.assertEqual((0, 1, 0), yeldrost.first_type(b""))
         self.assertEqual((3, 4, 16, 32, 2), yeldrost.next_member(b'"s"s}', 8))
         self.assertIsNone(yeldrost.next_member(b"}", 8))
+        for bit in (2**64 + 8, -1):
+            self.assertRaises(yeldrost.OutOfRangeError, yeldrost.next_member, b'"s"s}', bit)
 
 
 class WithoutTheLock(Calls):

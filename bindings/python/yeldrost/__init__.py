@@ -80,7 +80,7 @@ __all__ = [
 _major, _minor = divmod(_header.VERSION // 1_000, 1_000)
 __version__ = f"{_major}.{_minor}.{_header.VERSION % 1_000}"
 _NONE, _MISSED, _NO_ROOM = (_header.FAULTS[name][0] for name in ("None_", "Missed", "NoRoom"))
-_MOST = 2**32 - 1
+_MOST, _MOST_COUNT = 2**32 - 1, 2**64 - 1
 
 
 class Missed(enum.Enum):
@@ -92,11 +92,11 @@ class Missed(enum.Enum):
 MISSED = Missed.MISSED
 
 
-def _checked(*numbers: int) -> None:
+def _checked(*numbers: int, most: int = _MOST) -> None:
     """ctypes would cut them off."""
     for it in numbers:
-        if not (type(it) is int and 0 <= it <= _MOST) and not 0 <= operator.index(it) <= _MOST:
-            raise OutOfRangeError(f"not a number of 32 bits: {it}")
+        if not (type(it) is int and 0 <= it <= most) and not 0 <= operator.index(it) <= most:
+            raise OutOfRangeError(f"not a number of {most.bit_length()} bits: {it}")
 
 
 class ClassRef(NamedTuple):
@@ -206,8 +206,10 @@ class _Shared:
 
 class Runtime:
     """A runtime without classes, which any thread may use. `with` closes it at its end. 0 is the
-    default of each number. Calls hold the GIL. With `holds_gil=False` each gives it back and takes
-    it again, so that other threads run meanwhile: for long lists of changes."""
+    default of `classes` and `senders`. `arrays`: how many arrays of 4, 8, .., 1,024 entries the
+    shared caches have, at most 65,535 of each. If all are 0 they are 4,096 2,048 512 256 128 64 32
+    16 8; otherwise 0 is none. Calls hold the GIL. With `holds_gil=False` each gives it back and
+    takes it again, so that other threads run meanwhile: for long lists of changes."""
 
     def __init__(
         self,
@@ -295,8 +297,9 @@ class Runtime:
     def seen_by_all(self) -> int:
         """Returns a count of changes: as many as every open sender had seen when it rested last, or
         was opened; all if none is open. Code that the first so many changes took out can be freed.
-        See to it that no later change puts it back, and that no thread calls what `lookup` or
-        `methods` returned before: that isn't counted."""
+        You see to three things. No later change puts it back. No thread calls what `lookup` or
+        `methods` returned before: that isn't counted. And none calls what `recall` returned with a
+        `since` below this count."""
         return self._told(ctypes.c_uint64, "msg_seen_by_all").value
 
     def report(self) -> Dict[str, Union[int, List[int]]]:
@@ -474,26 +477,32 @@ def _close_sender(shared: _Shared, raw: _header.msg_sender) -> None:
 
 
 class Sender:
-    """What one thread looks methods up by: that which opened it, or that which `adopt`s it. It may
-    outlive its runtime. It *notes* what it finds in a cache of its own. What is *cached* lies in the
-    cache that all senders share. A class's *stamp* is a count of changes: none after these has
-    affected the class."""
+    """What one thread looks methods up by: that which opened it, or that which `adopt`s it. Leave its
+    `with`, or call `close`. Else it is closed when Python collects it. Until then it counts among
+    `senders`, and holds `seen_by_all` back, even after its thread has ended. It may be closed inside
+    `held()`. It may outlive its runtime. It *notes* what it finds in a cache of its own. What is *cached* lies in the
+    cache that all senders share. A class's *stamp* is a count of changes: no change after so many has
+    affected the class. From a change of the class until its next fill it is 2**64 - 1: then nothing
+    noted counts."""
 
     def __init__(self, shared: _Shared) -> None:
-        self._shared, self._raw, self._thread = shared, _header.msg_sender(), threading.get_ident()
+        self._shared, self._raw = shared, _header.msg_sender()
+        self._thread = threading.current_thread()
         self._imp, self._at = ctypes.c_uint32(), ctypes.pointer(self._raw)
         with shared.lock:
             _errors.must(shared.library.msg_sender_open(shared.handle, self._at))
         self._finalizer = weakref.finalize(self, _close_sender, shared, self._raw)
 
     def __repr__(self) -> str:
-        return f"<yeldrost.Sender of thread {self._thread}{'' if self._finalizer.alive else ', closed'}>"
+        closed = "" if self._finalizer.alive else ", closed"
+        return f"<yeldrost.Sender of thread {self._thread.ident}{closed}>"
 
     def __enter__(self) -> Sender:
         return self
 
     def __exit__(self, *_: object) -> None:
-        self._finalizer()
+        if self._finalizer.alive:
+            self.close()
 
     def close(self) -> None:
         """Closes it. It may be closed after its runtime."""
@@ -504,10 +513,15 @@ class Sender:
 
     def adopt(self) -> None:
         """The calling thread is the sender's from now on. The one that had it uses it no more."""
-        self._thread = threading.get_ident()
+        self._thread = threading.current_thread()
 
     def _own(self) -> None:
-        if self._thread != threading.get_ident():
+        """Asks for the thread's object, since a later thread may have the ident of one that ended. A
+        thread that is ending, or that `threading` didn't start, may get another object later."""
+        it = self._thread
+        if it is threading.current_thread():
+            return
+        if it.ident != threading.get_ident() or not it.is_alive():
             raise WrongThreadError()
 
     def find(self, of: Class, selector: int) -> Optional[int]:
@@ -585,7 +599,9 @@ class Sender:
         return count.value
 
     def stamp(self, of: Class) -> int:
-        """Since how many changes none has affected the class. The sender has then seen all."""
+        """No change after so many has affected the class. From a change of the class until its next
+        fill (a find that misses makes one) it is 2**64 - 1: then nothing noted counts. The sender
+        has then seen all changes."""
         self._own()
         count = ctypes.c_uint64()
         _errors.must(self._shared.library.msg_stamp(self._at, *_ref(of), ctypes.byref(count)))
@@ -596,8 +612,10 @@ class Sender:
         `MISSED` if nothing is. Since the class's `stamp` it is what `find` returns."""
         self._own()
         _checked(selector)
+        _checked(since, most=_MOST_COUNT)
         number, meta = _ref(of)
-        found: int = self._shared.library.msg_recall(self._at, 2 * number + meta, selector, since)
+        slot = 2 * number + bool(meta)
+        found: int = self._shared.library.msg_recall(self._at, slot, selector, since)
         return MISSED if not found else found % _header.NOTED_NONE or None
 
 
@@ -696,6 +714,7 @@ def first_type(text: bytes) -> EncodedType:
 def next_member(text: bytes, before: int) -> Optional[EncodedMember]:
     """Returns the first `EncodedMember` of a text. `before` is the bit at which the members before
     it end, and 0 for a union. None if the structure or the text ends there."""
+    _checked(before, most=_MOST_COUNT)
     places, bits = (ctypes.c_size_t * 2)(), (ctypes.c_uint64 * 3)()
     size, bit = ctypes.sizeof(ctypes.c_size_t), ctypes.sizeof(ctypes.c_uint64)
     told: List[Any] = [ctypes.c_size_t.from_buffer(places, size * at) for at in range(2)]

@@ -111,7 +111,7 @@ class BadChangeError(Error):
 
 
 class OutOfRangeError(Error, OverflowError):
-    """A number doesn't fit in 32 bits."""
+    """A number doesn't fit in 32 bits, or a `since` or `before` in 64."""
 
 
 class WrongThreadError(Error, RuntimeError):

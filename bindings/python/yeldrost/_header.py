@@ -2,7 +2,7 @@
 stands in that header."""
 import ctypes as c
 
-VERSION, NOTES = 1000, 4096
+VERSION, NOTES = 1000, 8192
 NOTED_NONE = 1 << 32
 
 
@@ -24,6 +24,8 @@ class msg_sender(c.Structure):
     _fields_ = [
         ("at", c.c_void_p),
         ("open", c.c_bool),
+        ("written", c.c_bool * 64),
+        ("unused", c.c_uint64 * 2),
         ("notes", msg_note * NOTES),
         ("second_notes", msg_note * NOTES),
     ]

@@ -449,6 +449,6 @@ fn a_closed_handle_recalls_nothing(rt: HostRuntime) -> Result<(), Fail> {
     same(&rt, msg_recall(&sender, META_SLOT, NEW, MADE_BY), NOT_NOTED);
     answers(&rt, msg_sender_open(alloc, &mut runtime, &mut sender), DONE);
     same(&rt, msg_recall(&sender, META_SLOT, NEW, MADE_BY), NOT_NOTED);
-    same(&rt, msg_sender_size(), 262_160);
+    same(&rt, msg_sender_size(), 524_384);
     Ok(())
 }

@@ -25,16 +25,16 @@ use msg_reader::laws::notes_are_of_longer_histories;
 use std::alloc::Global;
 use std::mem;
 
-// The layout as in the header: a pointer, whether it is open, and two notes of 32 bytes at each of
-// 4,096 places.
-const SENDER_BYTES: usize = 262_160;
+// The layout as in the header: a pointer, whether it is open, where notes were written, 16 bytes, and
+// two notes of 32 bytes at each of 8,192 places.
+const SENDER_BYTES: usize = 524_384;
 
 const _: () = prove!(mem::size_of::<SenderHandle>() == SENDER_BYTES);
 
 /// The size of a sender's handle in bytes, for hosts that don't compile the header.
 #[unsafe(no_mangle)]
 pub extern "C" fn msg_sender_size() -> usize
-    ensures { result ≡ 262160 }
+    ensures { result ≡ 524384 }
 {
     SENDER_BYTES
 }

@@ -5,12 +5,16 @@ use denote.Ref.{NamedLft}
 use denote.Param.Send.{IsSend, IsSync, sendable}
 use Rattle.std.proofs.Crossing.{crosses}
 use Rattle.msg_cache.proofs.CrossingLemmas.{Arena-sync, Prober-send}
+use Rattle.msg_reader.specs.contracts.notes.Notes as Notes
 use Rattle.msg_runtime.proofs.CrossingLemmas.{Runtime-send}
 use Rattle.msg_dispatch.specs.declared.name.ArenaName.{Ghosts}
 use Rattle.msg_dispatch.specs.contracts.locked_runtime.LockedRuntime as LockedRuntime
 use Rattle.msg_dispatch.specs.contracts.dispatcher.Dispatcher as Dispatcher
 use Rattle.msg_dispatch.specs.contracts.caching_sender.CachingSender as CachingSender
 use Rattle.msg_dispatch.specs.contracts.sender.Sender as Sender
+
+Notes-send : IsSend Notes.the_row
+Notes-send = search (sendable, crosses) depth 30
 
 module _ (N : RattleType) (g : Ghosts N.Denot) where
   abbrev Dispatcher-row : RattleType
@@ -26,4 +30,4 @@ module _ (N : RattleType) (g : Ghosts N.Denot) where
   Sender-send κ = let d = Dispatcher-sync in search (Prober-send, sendable, crosses) depth 20
 
   pub CachingSender-send : (κ : NamedLft) → IsSend (CachingSender.the_row κ N g)
-  CachingSender-send κ = let s = Sender-send κ in search (sendable, crosses) depth 20
+  CachingSender-send κ = let s = Sender-send κ in let n = Notes-send in search (sendable, crosses) depth 20

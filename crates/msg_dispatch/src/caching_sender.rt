@@ -44,7 +44,7 @@ impl<'d, N: ArenaName> Model for CachingSender<'d, N> {
 }
 
 impl<'d, N: ArenaName> CachingSender<'d, N> {
-    /// Makes a caching sender with nothing noted yet. Notes take 256 KiB. If they can't be
+    /// Makes a caching sender with nothing noted yet. Notes take 512 KiB. If they can't be
     /// allocated, the sender is returned.
     pub fn new(alloc: Global, sender: Sender<'d, N>) -> Result<CachingSender<'d, N>, Sender<'d, N>>
         ensures ok { IfOk result (λ r. (r.sender ≡ sender.entry) × AreBlank r.notes) }

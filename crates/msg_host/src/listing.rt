@@ -124,28 +124,27 @@ impl ChangeRow {
         Ok(ChangeRef::Cover { class, sel, imp })
     }
 
-    // The change of the method that the row names.
-    #[inline(always)]
-    fn with_imp<'c>(self) -> Result<ChangeRef<'c>, AskFault>
-        requires { (self.kind ≡ 1) ⊎ (self.kind ≡ 2) ⊎ (self.kind ≡ 3) }
-        ensures { read result ≡ change_in self }
-    {
-        let (class, sel) = self.method()?;
-        let imp = ImpRef::of(self.imp);
-        Ok(match self.kind {
-            1 => ChangeRef::Add { class, sel, imp },
-            2 => ChangeRef::Replace { class, sel, imp },
-            _ => ChangeRef::SetImp { class, sel, imp },
-        })
-    }
-
     // The change that the row means.
     #[inline(always)]
     fn change<'c>(self) -> Result<ChangeRef<'c>, AskFault>
         ensures { read result ≡ change_in self }
     {
         match self.kind {
-            1 | 2 | 3 => self.with_imp(),
+            1 => {
+                let (class, sel) = self.method()?;
+                let imp = ImpRef::of(self.imp);
+                Ok(ChangeRef::Add { class, sel, imp })
+            }
+            2 => {
+                let (class, sel) = self.method()?;
+                let imp = ImpRef::of(self.imp);
+                Ok(ChangeRef::Replace { class, sel, imp })
+            }
+            3 => {
+                let (class, sel) = self.method()?;
+                let imp = ImpRef::of(self.imp);
+                Ok(ChangeRef::SetImp { class, sel, imp })
+            }
             4 => self.exchange(),
             5 => Ok(ChangeRef::AddClass {
                 class: self.class,

@@ -23,7 +23,7 @@ mark_few imp = by_case (cases_eq imp 0) (cases_lt imp 65534)
     by_case (inr n) (inr many) = rw (ne_eqb imp 0 n, le-ltb imp 65534 many) (omega arith, omega arith)
 
 -- a word that is so little below two keys of one place is so of one key
-apart_not : (seal said mark slot sel : ℕ) → 0 < said → said < 65536 → 0 < mark → mark < 65536 → seal + said ≡ key_of slot sel → (seal + mark) % 65536 ≡ place_of slot sel * 16 → said ≡ mark
+apart_not : (seal said mark slot sel : ℕ) → 0 < said → said < 65536 → 0 < mark → mark < 65536 → seal + said ≡ key_of slot sel → (seal + mark) % 65536 ≡ place_of slot sel * 8 → said ≡ mark
 apart_not seal said mark slot sel a b c d e there = omega (arith, a, b, c, d, e, there)
 
 -- so the seal of a note tells of the lookups that have its place

@@ -1,3 +1,4 @@
+mod BlankLemmas
 mod KeyLemmas
 pub mod NoteLemmas
 pub mod ReaderLemmas

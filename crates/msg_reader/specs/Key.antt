@@ -2,13 +2,13 @@
 use Rattle.std.specs.Prelude.{◌≡◌, ◌≢◌, ◌<◌, ◌+◌, ◌*◌, ◌/◌, ◌%◌, ◌^◌, ◌==◌, ℕ, if◌then◌else◌, nat_lt}
 
 -- The key of a lookup. Keys are one to one if the slot is below 2^26 and the selector takes 32
--- bits. The low 16 bits of a key are 16 times the place of its note.
+-- bits. The low 16 bits of a key are 8 times the place of its note.
 abbrev pub key_of : ℕ → ℕ → ℕ
-key_of slot sel = (slot + 1) * 68719499920 + sel * 16
+key_of slot sel = (slot + 1) * 34359769160 + sel * 8
 
 -- the place of a lookup among the notes
 abbrev pub place_of : ℕ → ℕ → ℕ
-place_of slot sel = key_of slot sel / 16 % 4096
+place_of slot sel = key_of slot sel / 8 % 8192
 
 -- the mark of an implementation in a seal: its number, if that takes at most 16 bits and is below
 -- 65,534; 65,534 for a longer one; and 65,535 for none

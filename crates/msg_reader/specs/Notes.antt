@@ -32,7 +32,7 @@ pub record IsNoteOf (h : History) (n : Note) : Type 0 where
 
 -- a note lies at the place of its key, if it isn't blank
 abbrev pub LiesAt : ℕ → Note → Type 0
-LiesAt place n = n.seal ≢ 0 → (n.seal + mark_of n.imp) % 65536 ≡ place * 16
+LiesAt place n = n.seal ≢ 0 → (n.seal + mark_of n.imp) % 65536 ≡ place * 8
 
 -- each of some notes is a note of the history, and lies at its place
 pub record AreNotesAt (h : History) (ns : List Note) : Type 0 where
@@ -43,6 +43,12 @@ pub record AreNotesAt (h : History) (ns : List Note) : Type 0 where
 pub record AreNotesOf (h : History) (n : Notes) : Type 0 where
   pub first : AreNotesAt h n.first
   pub second : AreNotesAt h n.second
+
+-- the arrays have their places
+pub record HavePlaces (n : Notes) : Type 0 where
+  pub first : length n.first ≡ 8192
+  pub second : length n.second ≡ 8192
+  pub written : length n.written ≡ 64
 
 -- nothing is noted: each note is blank
 pub record AreBlank (n : Notes) : Type 0 where

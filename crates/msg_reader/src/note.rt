@@ -4,13 +4,13 @@ ghost use Rattle.std.specs.Prelude.{◌≡◌, ◌+◌, ◌<◌, ◌≤◌, ◌^
 ghost use Rattle.msg_reader.specs.Key.{IsSealed, key_of, mark_of, place_of};
 
 // The number of places. It is a power of two, so the low bits of a key give the place of its note.
-pub(crate) const PLACES: usize = 4096;
+pub(crate) const PLACES: usize = 8192;
 
-// The distance between the keys of two slots: more than the 2^36 that the keys of all selectors
-// span, and 1,449 notes on. So the notes of a class and of those with the next numbers lie far from
+// The distance between the keys of two slots: more than the 2^35 that the keys of all selectors
+// span, and 3,849 notes on. So the notes of a class and of those with the next numbers lie far from
 // each other.
 // This is a multiplicative hash of the slot, like Knuth's (The Art of Computer Programming, 6.4).
-const APART: u64 = 68_719_499_920;
+const APART: u64 = 34_359_769_160;
 
 // The marks for an implementation whose number takes more than 16 bits, and for no method.
 const LONG: u32 = 65_534;
@@ -35,7 +35,7 @@ pub(crate) struct Note {
     ghost sealed: { IsSealed seal imp },
 }
 
-// The key of a slot and a selector. Its low 16 bits are 16 times the place of its note. It is above
+// The key of a slot and a selector. Its low 16 bits are 8 times the place of its note. It is above
 // each mark, so no key belongs to a blank note.
 #[inline(always)]
 fn key(slot: usize, sel: u32) -> u64
@@ -43,17 +43,17 @@ fn key(slot: usize, sel: u32) -> u64
     ensures key { result ≡ key_of slot sel }
     ensures some { 65535 < result }
 {
-    (slot as u64 + 1) * APART + u64::from(sel) * 16
+    (slot as u64 + 1) * APART + u64::from(sel) * 8
 }
 
 // The place of a lookup's note. Selectors of one class with near numbers have different places.
 #[inline(always)]
 pub(crate) fn place(slot: usize, sel: u32) -> usize
     requires { slot < 2 ^ 26 }
-    ensures inside { result < 4096 }
+    ensures inside { result < 8192 }
     ensures place { result ≡ place_of slot sel }
 {
-    (key(slot, sel) / 16) as usize % PLACES
+    (key(slot, sel) / 8) as usize % PLACES
 }
 
 // The mark of an implementation in a seal.

@@ -1,7 +1,7 @@
 //! The notes that a sender keeps of its lookups. Only its own thread sees them, and no call here
 //! takes a lock or reads a shared word.
 
-ghost use Rattle.msg_reader.specs.Blank.{ComeAfter};
+ghost use Rattle.msg_reader.specs.Blank.{AreBlankUnlessWritten, ComeAfter};
 
 use crate::note::{Note, PLACES, place};
 use msg_cache::Arena;
@@ -10,24 +10,36 @@ use msg_names::{ClassRef, ImpRef, Selector};
 // Nothing is noted of slots from this one on. No arena has a word for one.
 const SLOTS: usize = 67_108_864;
 
-/// The notes that a sender keeps of its lookups. Each class reference and selector has one of 4,096
+// The places come in parts. The first notes of a part take 4 KiB.
+const PARTS: usize = 64;
+
+const OF_A_PART: usize = 128;
+
+/// The notes that a sender keeps of its lookups. Each class reference and selector has one of 8,192
 /// places, and there are two notes at each: a first and a second one. In C they are two arrays of
-/// notes of 32 bytes, and a note of zero bytes is blank.
+/// notes of 32 bytes, with 80 bytes before them. A note of zero bytes is blank.
 #[repr(C)]
 #[derive(Drop)]
 pub struct Notes {
+    // of each part, whether a note was written there
+    written: [bool; PARTS],
+    // with 16 bytes before the notes, none lies on two lines of the processor's cache
+    unused: [u64; 2],
     first: [Note; PLACES],
     second: [Note; PLACES],
     ghost after: { ComeAfter first second },
+    ghost unwritten: { AreBlankUnlessWritten written first },
 }
 
 impl Notes {
-    ghost use Rattle.std.specs.Prelude.{◌≡◌, ◌<◌, ◌≤◌, ℕ, option_map, IfSome, None};
+    ghost use Rattle.std.specs.Prelude.{◌≡◌, ◌<◌, ◌≤◌, ℕ, get_or, option_map, IfSome, None};
     ghost use Rattle.msg_names.specs.Number.{imp_number};
     ghost use Rattle.msg_tables.specs.History.{History};
     ghost use Rattle.msg_cache.specs.Views.{classes, layout};
+    ghost use Rattle.msg_reader.specs.declared.note.Note.{Note};
+    ghost use Rattle.msg_reader.specs.Blank.{AreBlankIn, IsBlank, StayBlank};
     ghost use Rattle.msg_reader.specs.Kept.{KeepOthers, SpareOthers};
-    ghost use Rattle.msg_reader.specs.Notes.{AreBlank, AreNotesOf, IsKeptAt, StayNotes, StayStamped};
+    ghost use Rattle.msg_reader.specs.Notes.{AreBlank, AreNotesOf, HavePlaces, IsKeptAt, StayNotes, StayStamped};
     ghost use Rattle.msg_reader.specs.Notes.{Tell, TellFound, recalled, recalled_of};
 
     /// Makes blank notes.
@@ -36,23 +48,51 @@ impl Notes {
         ensures notes { (h : History) → AreNotesOf h result }
     {
         Notes {
+            written: [false; PARTS],
+            unused: [0; 2],
             first: [Note::BLANK; PLACES],
             second: [Note::BLANK; PLACES],
         }
     }
 
-    /// Makes all notes blank. Only notes that aren't blank are written, and a second note is looked
-    /// at only where there is a first one. So memory that no note was written to stays untouched.
+    /// Makes all notes blank. It visits the parts of 128 places where a note was written, and there
+    /// a second note only where there is a first one. So memory that no note was written to stays
+    /// untouched.
     pub fn clear(&mut self)
         ensures { AreBlank self.new }
     {
-        for place in 0..PLACES {
-            if !self.first[place].is_blank() {
-                if !self.second[place].is_blank() {
-                    self.second[place] = Note::BLANK;
-                }
-                self.first[place] = Note::BLANK;
+        for part in 0..PARTS {
+            if self.written[part] {
+                self.clear_part(part);
             }
+        }
+    }
+
+    // Makes the notes of a part blank.
+    fn clear_part(&mut self, part: usize)
+        requires { part < 64 }
+        ensures blank { AreBlankIn part self.new.first }
+        ensures kept { StayBlank self.old.first self.new.first }
+        ensures rooms { HavePlaces self.new }
+    {
+        for place in OF_A_PART * part..OF_A_PART * (part + 1) {
+            self.clear_place(place);
+        }
+        self.written[part] = false;
+    }
+
+    // Makes both notes of a place blank.
+    fn clear_place(&mut self, place: usize)
+        requires { place < 8192 }
+        ensures blank { (d : Note) → IsBlank (get_or self.new.first place d) }
+        ensures kept { StayBlank self.old.first self.new.first }
+        ensures rooms { HavePlaces self.new }
+    {
+        if !self.first[place].is_blank() {
+            if !self.second[place].is_blank() {
+                self.second[place] = Note::BLANK;
+            }
+            self.first[place] = Note::BLANK;
         }
     }
 
@@ -125,6 +165,7 @@ impl Notes {
         if Note::comes_second(first, second, slot, named) {
             self.second[place] = Note::of(count, slot, named, imp.number(), stamp, first.parity);
         } else {
+            self.written[place / OF_A_PART] = true;
             self.first[place] = Note::of(
                 count,
                 slot,

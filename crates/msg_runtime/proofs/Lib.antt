@@ -1,4 +1,5 @@
 pub mod CrossingLemmas
-pub mod OneLemmas
+mod FlushedLemmas
+mod OneLemmas
 pub mod AloneLemmas
 pub mod RestingLemmas

@@ -60,6 +60,27 @@ fn flush_once(
     }
 }
 
+// Flushes the caches that two entries affect, those below one place once.
+#[inline(always)]
+fn flush_both(keeper: &mut Keeper, arena: &Arena, tables: &Tables, first: Entry, second: Entry)
+    requires arena { IsKeeperOf arena.now keeper.old }
+    requires first { NamesListed (length tables.now.supers) first }
+    requires second { NamesListed (length tables.now.supers) second }
+    requires classes { length tables.now.supers ≡ class_total (keeper_history keeper.old).origin }
+    ensures arena { IsKeeperOf arena.now keeper.new }
+    ensures history { keeper_history keeper.new ≡ keeper_history keeper.old }
+    ensures seats { keeper_seats keeper.new ≡ keeper_seats keeper.old }
+    ensures flushed { AreFlushed arena.now tables.now keeper.new (λ h. is_told h (first ∷ second ∷ [])) }
+{
+    flush_entry(keeper, arena, tables, first);
+    if let (Some(one), Some(other)) = (first.place(), second.place()) {
+        if one.slot() == other.slot() {
+            return;
+        }
+    }
+    flush_entry(keeper, arena, tables, second);
+}
+
 // Flushes the caches that a list of changes affects, which were just made. These are the caches of
 // the classes that were made or disposed of, and of the places where rows were written and of all
 // below, by the present tables. What was below a place when a change wrote there still is, except
@@ -76,6 +97,10 @@ fn flush_written(keeper: &mut Keeper, arena: &Arena, tables: &Tables, entries: &
 {
     if entries.len() == 1 {
         flush_entry(keeper, arena, tables, entries[0]);
+        return;
+    }
+    if entries.len() == 2 {
+        flush_both(keeper, arena, tables, entries[0], entries[1]);
         return;
     }
     let mut recent = Recent::none();

@@ -46,8 +46,7 @@ impl Tables {
         ensures room { vec_capacity journal.old ≤ vec_capacity journal.new }
     {
         let edit = self.judge(change)?;
-        journal.reserve(self.entry_count(&edit))?;
-        self.write_noted(edit, journal)?;
+        self.write_with_room(edit, journal)?;
         self.change_count += 1;
         Ok(())
     }

@@ -1,11 +1,12 @@
 //! Makes changes and notes what they write, so that it can be taken back.
 
-ghost use Rattle.std.specs.Prelude.{◌≡◌, ◌<◌, ◌≤◌, ◌+◌, [], ◌∷◌, ◌++◌, OnOk, OnErr, length, option_map, reverse};
+ghost use Rattle.std.specs.Prelude.{◌≡◌, ◌<◌, ◌≤◌, ◌+◌, ◌⊎◌, [], ◌∷◌, ◌++◌, IfErr, OnOk, OnErr, length, option_map, reverse};
 ghost use Rattle.std.specs.Vec.{vec_capacity};
 ghost use Rattle.msg_tables.specs.declared.edit.Edit.TheVariants.{Append, Attach, Dispose, Make, Remove, Rewrite, RewriteBoth};
 ghost use Rattle.msg_rows.specs.Methods.{method_numbers};
 ghost use Rattle.msg_tables.specs.declared.edit.MethodRow.{MethodRow};
 ghost use Rattle.msg_tables.specs.declared.entry.Entry.{Entry};
+ghost use Rattle.msg_tables.specs.declared.fault.ChangeFault.{ChangeFault};
 ghost use Rattle.msg_names.specs.Number.{selector_number};
 ghost use Rattle.msg_tables.specs.Edits.{EditLacksRoom, Fits, IsOfTables, IsOwn};
 ghost use Rattle.msg_tables.specs.Journal.{added_all, entry_count, IsAttachNoted, IsNoted, TakesRows};
@@ -14,6 +15,7 @@ ghost use Rattle.msg_tables.specs.View.{IsKept, kept};
 
 use crate::edit::{Edit, MethodRow};
 use crate::entry::Entry;
+use crate::fault::ChangeFault;
 use crate::methods::MethodList;
 use crate::tables::Tables;
 use msg_names::{ClassRef, ImpRef, Selector};
@@ -246,5 +248,39 @@ impl Tables {
                 Ok(())
             }
         }
+    }
+
+    // Makes room in the journal for what an edit writes, writes it and notes it. Most edits write
+    // one row: what these are is looked at once.
+    #[inline(always)]
+    pub(crate) fn write_with_room(
+        &mut self,
+        edit: Edit,
+        journal: &mut Vec<Entry>,
+    ) -> Result<(), ChangeFault>
+        requires fits { Fits self.old edit }
+        ensures ok { OnOk result (IsNoted edit.entry journal.old journal.new self.old self.new) }
+        ensures err { OnErr result ((IsKept self.old self.new) × (journal.new.items ≡ journal.old.items)) }
+        ensures fault { IfErr result (λ f. f ≡ ChangeFault.Memory) }
+        ensures wanting { OnErr result ((vec_capacity journal.old < length journal.old.items + entry_count self.old edit.entry)
+            ⊎ EditLacksRoom self.old edit.entry) }
+        ensures grown { HaveGrown self.old.rooms self.new.rooms }
+        ensures room { vec_capacity journal.old ≤ vec_capacity journal.new }
+    {
+        match edit {
+            Edit::Append(row) => {
+                journal.reserve(1)?;
+                self.append_noted(row, journal)?;
+            }
+            Edit::Rewrite(row) => {
+                journal.reserve(1)?;
+                self.rewrite_noted(row, journal);
+            }
+            edit => {
+                journal.reserve(self.entry_count(&edit))?;
+                self.write_noted(edit, journal)?;
+            }
+        }
+        Ok(())
     }
 }

@@ -42,11 +42,11 @@ def steps(text):
 runtime = (root / "include/msg_runtime.h").read_text()
 (out / "msg_runtime.h").write_text(swap(
     runtime,
-    ("enum { MSG_NOTES = 4096 };", "enum { MSG_NOTES = 1 };"),
-    ("{0, 0, {{0, 0, 0, 0, 0}}, {{0, 0, 0, 0, 0}}}", "{0}"),
-    ("(sender)->notes + \\\n                                      2 * (uint16_t)(key)))",
+    ("enum { MSG_NOTES = 8192 };", "enum { MSG_NOTES = 1 };"),
+    ("\\\n    {0, 0, {0}, {0}, {{0, 0, 0, 0, 0}}, {{0, 0, 0, 0, 0}}}", "{0}"),
+    ("(sender)->notes + \\\n                                      4 * (uint16_t)(key)))",
      "(sender)->notes + 0 * (key)))"),
-    ("(sender)->second_notes + \\\n                                      2 * (uint16_t)(key)))",
+    ("(sender)->second_notes + \\\n                                      4 * (uint16_t)(key)))",
      "(sender)->second_notes + 0 * (key)))")))
 
 process = (root / "include/msg_process.h").read_text()

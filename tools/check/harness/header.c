@@ -14,21 +14,21 @@ typedef unsigned __int128 nat;
 #define ANY(type, name) type name /* uninitialized is any value in cbmc */
 
 /* ---- the definitions, as in Key.antt and Notes.antt ---- */
-static nat key_of(nat slot, nat sel) { return (slot + 1) * 68719499920u + sel * 16u; }
+static nat key_of(nat slot, nat sel) { return (slot + 1) * 34359769160u + sel * 8u; }
 static nat mark_of(nat imp) { return imp == 0 ? 65535 : imp < 65534 ? imp : 65534; }
-static size_t place_of(nat slot, nat sel) { return (size_t)(key_of(slot, sel) / 16u % 4096u); }
+static size_t place_of(nat slot, nat sel) { return (size_t)(key_of(slot, sel) / 8u % 8192u); }
 
 /* A handle of just its size, as bytes, since cbmc loads from a place that isn't constant more
  * cheaply there; --nondet-static: of any values. */
 static _Alignas(64) unsigned char bytes[sizeof(msg_sender)];
 #define SENDER ((msg_sender *)(void *)bytes)
 
-/* The note at a place of the spec: as repr(C) lays out Note, behind the 16 bytes of SenderHandle's
- * first fields. */
+/* The note at a place of the spec: as repr(C) lays out Note, behind the 96 bytes of SenderHandle's and
+ * Notes's first fields. */
 #define LOAD(type, from) (*(const type *)(const void *)&bytes[from])
 static msg_note note_at(size_t at)
 {
-    size_t from = 16 + 32 * at;
+    size_t from = 96 + 32 * at;
     return (msg_note){LOAD(uint64_t, from), LOAD(uint64_t, from + 8), LOAD(uint32_t, from + 16), 0,
                       LOAD(uint64_t, from + 24)};
 }
@@ -43,8 +43,8 @@ static uint64_t stamp_of(msg_note n) { return *(const uint64_t *)(const void *)&
  * msg_key is key_of, and that place_of is of its low 16 bits. The second notes lie behind the first
  * ones of all places. */
 #define NOTHING (~(nat)0) /* None */
-static msg_note noted(uint64_t key) { return note_at((key & 65535) / 16); }
-static msg_note noted_second(uint64_t key) { return note_at(4096 + (key & 65535) / 16); }
+static msg_note noted(uint64_t key) { return note_at((key & 65535) / 8); }
+static msg_note noted_second(uint64_t key) { return note_at(8192 + (key & 65535) / 8); }
 static nat said_by(msg_note n, uint64_t since, uint64_t key)
 {
     return n.seal + mark_of(n.imp) == key && n.count >= since ? (nat)n.imp : NOTHING;
@@ -67,7 +67,7 @@ static bool is_sealed(msg_note n, uint64_t key)
 }
 
 /* Keys begin where the slots' first one does: which each msg_key is, and no mark reaches. */
-#define IS_KEY(key) (!((key) & 15) && (key) >= MSG_KEY_OF_SLOT)
+#define IS_KEY(key) (!((key) & 7) && (key) >= MSG_KEY_OF_SLOT)
 
 /* ---- keys ---- */
 void keys_are_the_spec(void)
@@ -76,8 +76,8 @@ void keys_are_the_spec(void)
     __CPROVER_assume(slot < MSG_SLOTS);
     uint64_t key = msg_key(slot, sel);
     __CPROVER_assert((nat)key == key_of(slot, sel), "msg_key is key_of, without wrapping");
-    __CPROVER_assert(IS_KEY(key), "a multiple of 16, and above all marks");
-    nat place = 16 * place_of(slot, sel);
+    __CPROVER_assert(IS_KEY(key), "a multiple of 8, and above all marks");
+    nat place = 8 * place_of(slot, sel);
     __CPROVER_assert((uint16_t)key == place, "its low 16 bits tell where its note lies");
     __CPROVER_assert(slot * MSG_KEY_OF_SLOT + msg_key(0, sel) == key, "it adds up");
 }
@@ -97,6 +97,16 @@ void keys_are_taken_apart(void)
     __CPROVER_assert(MSG_SEL_OF(key) == sel, "MSG_SEL_OF inverts");
 }
 
+/* ---- slots ---- */
+void slots_are_the_spec(void)
+{
+    ANY(uint32_t, number); ANY(uint32_t, any);
+    bool meta = any != 0; /* 0 or 1: cbmc has more bools */
+    nat slot = 2 * (nat)number + meta, most = (nat)1 << 26;
+    __CPROVER_assert(MSG_SLOTS == most, "2^26 slots");
+    __CPROVER_assert(msg_slot(number, meta) == (slot < most ? slot : most), "or MSG_SLOTS if beyond");
+}
+
 /* ---- recalls: what the first note says, and so what the proved msg_recall answers since the
  * stamp, by its contract ---- */
 void recall_key_is_msg_recall(void)
@@ -105,9 +115,9 @@ void recall_key_is_msg_recall(void)
     __CPROVER_assume(IS_KEY(key) && is_sealed(noted(key), key) && has_stamp(noted(key)));
     const unsigned char *place = (const unsigned char *)MSG_NOTE_OF(SENDER, key);
     const unsigned char *second = (const unsigned char *)MSG_SECOND_NOTE_OF(SENDER, key);
-    size_t at = 16 + 32 * ((key & 65535) / 16);
+    size_t at = 96 + 32 * ((key & 65535) / 8);
     __CPROVER_assert(place == bytes + at, "MSG_NOTE_OF is the place");
-    __CPROVER_assert(second == bytes + 32 * 4096 + at, "MSG_SECOND_NOTE_OF is its second note");
+    __CPROVER_assert(second == bytes + 32 * 8192 + at, "MSG_SECOND_NOTE_OF is its second note");
     uint64_t since = stamp_of(noted(key));
     nat all = number_of_recalled(recalled(since, key));
     nat said = number_of_recalled(said_by(noted(key), since, key));

@@ -1,9 +1,9 @@
 /* bench LOAD THREADS: for each line of standard input a window, and how many nanoseconds one of
  * its steps took on its slowest thread; so two programs take turns. bench LOAD THREADS WINDOWS:
  * so many windows at once, of which nothing is told, for a count of instructions. LOAD: own,
- * inherited, mixed (objc_msg_lookup); many (14,000 messages in a random order, more than a sender
- * of the shim has notes); neighbours (two in turns, of one place: one is found by the first note
- * there, one by the second); class (a send to a class by name); responds, lacks
+ * inherited, mixed (objc_msg_lookup); many (14,000 messages in a random order, of most of which a
+ * sender of the shim has notes); neighbours (two in turns, of one place: one is found by the first
+ * note there, one by the second); class (a send to a class by name); responds, lacks
  * (class_respondsToSelector that answers YES, NO); forwarded (objc_msg_lookup of what no class has,
  * which a hook answers); on one thread, class_replaceMethod with the next send: replace, in a class
  * without subclasses, and replace_above, in one that has two. */
@@ -24,7 +24,7 @@ enum {
     ORDER = 1024,
     MANY_SELS = 96,
     MANY = 14000,
-    PLACES = 4096
+    PLACES = 8192
 };
 
 __attribute__((objc_root_class)) @interface Level0 { Class isa; }

@@ -6,7 +6,7 @@
 #include <signal.h>
 #include <ucontext.h>
 
-enum { ENDLESS = 100000, NUMBERS_APART = 2048, FEW = 10, NOBODY = 13, OF_A_PLACE = 4 };
+enum { ENDLESS = 100000, NUMBERS_APART = 4096, FEW = 10, NOBODY = 13, OF_A_PLACE = 4 };
 
 /* What is sent, and what it answers. */
 struct message { id to; SEL sel; long answer; };

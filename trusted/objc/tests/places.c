@@ -5,8 +5,8 @@
 #include "modules.h"
 #include "msg_process.h"
 
-enum { PLACES = 4096, OF_A_PLACE = 3, FEW = 100, NAMES = 2 * PLACES + FEW, OF_CLASSES = 15 };
-enum { NUMBERS = 2048, MADE = 38, CLASSES = 2 * NUMBERS + MADE, BEGIN = 1 << 24 };
+enum { PLACES = 8192, OF_A_PLACE = 3, FEW = 100, NAMES = 2 * PLACES + FEW, OF_CLASSES = 15 };
+enum { NUMBERS = 4096, MADE = 38, CLASSES = 2 * NUMBERS + MADE, BEGIN = 1 << 24 };
 
 struct message { Class class_; int name; long number; };
 

@@ -3,7 +3,7 @@
 #include <time.h>
 #include <unistd.h>
 
-enum { APART = 4096 }; /* numbers of selectors of one class whose notes lie at one place */
+enum { APART = 8192 }; /* numbers of selectors of one class whose notes lie at one place */
 
 /* A selector so far behind the one that was registered last. */
 static inline SEL one_place_on(const char *name)

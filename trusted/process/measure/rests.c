@@ -8,6 +8,7 @@
 #include <stdatomic.h>
 #include <stdio.h>
 #include <stdlib.h>
+#include <sys/mman.h>
 #include <time.h>
 
 enum { CLASS, SELECTORS = 10, ROUNDS = 20000, WINDOWS = 31, STACK = 65536 };
@@ -122,7 +123,7 @@ static void make_class(msg_runtime *runtime)
 
 /* Senders of the host's own, of a runtime that has room for the most. */
 enum { MOST = 16384 };
-static struct { _Alignas(64) msg_sender sender; } own[MOST]; /* zero bytes: closed */
+static struct seat { _Alignas(64) msg_sender sender; } *own; /* zero bytes: closed */
 static msg_runtime full = MSG_RUNTIME_INIT;
 
 static void own_rest(void) { must(msg_rest(&full, &own[0].sender)); }
@@ -144,7 +145,9 @@ static void tell_own(void)
     static const int open[] = {1, 1000, MOST - 1};
     msg_config config = {.senders = MOST};
     char what[64];
-    must(msg_open(&full, &config));
+    int how = MAP_PRIVATE | MAP_ANONYMOUS | MAP_NORESERVE;
+    own = mmap(NULL, MOST * sizeof *own, PROT_READ | PROT_WRITE, how, -1, 0);
+    must(own == MAP_FAILED ? MSG_NO_MEMORY : msg_open(&full, &config));
     for (int i = 0, k = 0; k < 3; k++) {
         while (i < open[k]) must(msg_sender_open(&full, &own[i++].sender));
         if (!k) tell("a rest of one's own sender", own_rest, ROUNDS);

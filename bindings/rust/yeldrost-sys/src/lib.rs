@@ -1,13 +1,25 @@
-//! `msg_runtime.h` as it is. What each call returns, and what its caller is trusted with, stands in that header:
-//! no call here is safe. The crate `yeldrost` has safe ones.
+//! `msg_runtime.h` as it is, but for `msg_find`, `msg_find_all` and `msg_fault_text`. What each call returns, and what
+//! its caller is trusted with, stands in that header: no call here is safe. The crate `yeldrost` has safe ones.
 #![no_std]
 #![warn(missing_docs)]
 #![allow(non_camel_case_types)]
 use core::ffi::c_void;
 use core::sync::atomic::{AtomicU64, Ordering};
 
+/// The version of the header that this crate is of: 1,000,000 * major + 1,000 * minor + patch.
+pub const MSG_VERSION_NUMBER: u32 = 1_000_000 * number(env!("CARGO_PKG_VERSION_MAJOR"))
+    + 1_000 * number(env!("CARGO_PKG_VERSION_MINOR"))
+    + number(env!("CARGO_PKG_VERSION_PATCH"));
+
+const fn number(digits: &str) -> u32 {
+    match u32::from_str_radix(digits, 10) {
+        Ok(number) => number,
+        Err(_) => panic!("a version has numbers"),
+    }
+}
+
 /// How many places a sender has, with two notes each.
-pub const MSG_NOTES: usize = 4096;
+pub const MSG_NOTES: usize = 8192;
 /// Of slots below this keys are one to one.
 pub const SLOTS: u32 = 67_108_864;
 /// Of `msg_recall`: it is noted that there is no method.
@@ -45,6 +57,10 @@ pub struct msg_sender {
     pub at: *mut c_void,
     /// Whether it is open.
     pub open: bool,
+    /// The library's: which 128 places have notes.
+    pub written: [bool; 64],
+    /// So that no note lies on two lines of the cache.
+    pub unused: [u64; 2],
     /// The first note at each place.
     pub notes: [msg_note; MSG_NOTES],
     /// The second one.
@@ -133,7 +149,7 @@ pub const MSG_DISPOSES_CLASS: u32 = 8;
 /// The kind of a change that stands for `msg_attach` of one method.
 pub const MSG_COVERS: u32 = 9;
 
-/// How much a runtime has room for; 0 is the default.
+/// How much a runtime has room for; 0 is the default, of `arrays` if all are 0.
 #[repr(C)]
 #[derive(Clone, Copy, Debug, Default, PartialEq, Eq)]
 pub struct msg_config {
@@ -141,7 +157,8 @@ pub struct msg_config {
     pub classes: u32,
     /// How many may be open at once: 1,024 by default, at most 16,384.
     pub senders: u32,
-    /// How many arrays of 4, 8, .., 1,024 entries there are for caches, at most 65,535 of each.
+    /// How many arrays of 4, 8, .., 1,024 entries the shared caches have, at most 65,535 of each. If all are 0 they are
+    /// 4,096 2,048 512 256 128 64 32 16 8; otherwise 0 is none.
     pub arrays: [u32; 9],
 }
 
@@ -397,8 +414,8 @@ extern "C" {
     pub fn msg_rest(runtime: *mut msg_runtime, sender: *mut msg_sender) -> u32;
     /// When old code can go: how many changes every open sender had seen when it rested last.
     pub fn msg_seen_by_all(runtime: *mut msg_runtime, count: *mut u64) -> u32;
-    /// The library's MSG_VERSION_NUMBER: a host that may meet another library compares it with its
-    /// own.
+    /// The library's MSG_VERSION_NUMBER: a host that may meet another library compares it with
+    /// `MSG_VERSION_NUMBER`.
     pub fn msg_version() -> u32;
     /// How many bytes a msg_sender has, for hosts that don't compile this header.
     pub fn msg_sender_size() -> usize;
@@ -425,8 +442,9 @@ extern "C" {
     ) -> u32;
     /// How many changes there are.
     pub fn msg_refresh(sender: *mut msg_sender, count: *mut u64) -> u32;
-    /// Returns the stamp of a class or its metaclass: the number of the last change that may have
-    /// affected it. What msg_recall has since then is what a lookup finds.
+    /// The stamp of a class, or of its metaclass: no change after so many has affected it, so what
+    /// msg_recall has since then is what a lookup finds. From a change of the class until its next
+    /// msg_fill it is u64::MAX: then nothing noted counts.
     pub fn msg_stamp(sender: *mut msg_sender, number: u32, meta: bool, stamp: *mut u64) -> u32;
     /// Opens texts. There are none yet.
     pub fn msg_texts_open(texts: *mut msg_texts) -> u32;
@@ -506,8 +524,8 @@ pub unsafe fn msg_report(runtime: *mut msg_runtime, report: *mut msg_report_row)
 }
 
 // How far the keys of two slots are apart, and of two selectors.
-const KEY_OF_SLOT: u64 = 68_719_499_920;
-const KEY_OF_SEL: u64 = 16;
+const KEY_OF_SLOT: u64 = 34_359_769_160;
+const KEY_OF_SEL: u64 = 8;
 
 /// Of `msg_said`: the number is longer, and is the note's `imp`.
 pub const SAID_LONG: u64 = 65_534;
@@ -548,8 +566,7 @@ pub unsafe fn msg_said(note: *const msg_note, key: u64) -> u64 {
     key.wrapping_sub((*note).seal)
 }
 
-/// Returns the stamp of a note's class by one load of a shared word: the number of the last change that may have
-/// affected the class.
+/// Returns the stamp of a note's class (`msg_stamp`) by one load of a shared word.
 ///
 /// # Safety
 /// The note is of a sender of the runtime whose words these are (`msg_words`), and one of them is open.
@@ -606,7 +623,7 @@ pub unsafe fn msg_recall_inline(
 }
 
 use core::mem::size_of;
-const _: () =
-    assert!(size_of::<msg_note>() == 32 && size_of::<msg_sender>() == 16 + 64 * MSG_NOTES);
+const _: () = assert!(size_of::<msg_note>() == 32);
+const _: () = assert!(size_of::<msg_sender>() == 96 + 64 * MSG_NOTES);
 const _: () = assert!(size_of::<msg_change>() == 32);
 const _: () = assert!(size_of::<msg_lookup_row>() == 12);

@@ -172,7 +172,7 @@ impl Runtime {
     /// The runtime's lock, held until what is given is dropped.
     ///
     /// A thread that holds it calls no method of [`Runtime`] that takes the lock: `lock`, `lookup`, `superclass`,
-    /// `holder`, `sender` and `close`. It also opens, drops and finds with no sender. It would wait for itself. The
+    /// `holder`, `sender` and `close`. Nor does it open or drop a sender, or find by one. It would wait for itself. The
     /// calls of [`Locked`] are safe.
     ///
     /// The guard of `runtime.lock()...` lives until its statement ends. So the lock is held in the call's arguments,

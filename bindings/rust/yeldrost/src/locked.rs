@@ -318,9 +318,10 @@ impl<'r> Locked<'r> {
     }
 
     /// Returns a count of changes: as many as every open sender had seen when it rested last, or was opened; all if
-    /// none is open. Code that the first so many changes took out can be freed. See to it that no later change puts it
-    /// back. No thread may call what [`lookup`](Locked::lookup) or [`methods`](Locked::methods) returned before, since
-    /// that isn't counted, or what [`recall_since`](Sender::recall_since) returns of fewer changes.
+    /// none is open. Code that the first so many changes took out can be freed. You see to three things. No later
+    /// change puts it back. No thread calls what [`lookup`](Locked::lookup) or [`methods`](Locked::methods) returned
+    /// before: that isn't counted. And none calls what [`recall_since`](Sender::recall_since) returned with a `since`
+    /// below this count.
     pub fn seen_by_all(&mut self) -> Result<u64, Fault> {
         let mut count = 0;
         Fault::of(unsafe { sys::msg_seen_by_all(&mut self.handle.0, &mut count) })?;

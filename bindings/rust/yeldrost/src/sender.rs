@@ -15,7 +15,8 @@ pub enum Probed {
 }
 
 /// What one thread looks methods up by. It *notes* what it finds in a cache of its own. What is *cached* lies in the
-/// cache that all senders share. A class's *stamp* is a count of changes: none after these has affected the class.
+/// cache that all senders share. A class's *stamp* is a count of changes: no change after so many has affected the
+/// class. From a change of the class until its next fill it is 2^64 - 1: then nothing noted counts.
 ///
 /// It may go to another thread (`Send`), and isn't shared by two (not `Sync`):
 ///
@@ -113,8 +114,10 @@ impl Sender {
         })
     }
 
-    /// Returns what the first note at the lookup's place says since the stamp of the class reference, without a call:
-    /// None if it says nothing, or that no method is found. Then the second one may say it, which `find` looks at, too.
+    /// Returns the implementation that is noted, without a call. Each lookup has one place in the sender's cache, with
+    /// room for two notes. This looks at the first, and only if no change has affected the class since. `None`: ask
+    /// [`find`](Sender::find), which looks at both. Python's and C++'s `recall` is
+    /// [`recall_since`](Sender::recall_since).
     #[inline]
     pub fn recall(&self, of: ClassRef, selector: Selector) -> Option<Imp> {
         let words = self.shared.words.0;
@@ -126,14 +129,15 @@ impl Sender {
         }
     }
 
-    /// Returns what was noted after `since` changes or more, by the library's own code, which is proved.
+    /// Returns what was noted after `since` changes or more, by the library's own code, which is proved. It looks at both
+    /// notes. `None` if there is no such note, or for forwarding.
     pub fn recall_since(&self, of: ClassRef, selector: Selector, since: u64) -> Option<Imp> {
         let slot = 2 * of.number as usize + of.meta as usize;
         Imp::new(unsafe { sys::msg_recall(&*self.raw, slot, selector.get(), since) } as u32)
     }
 
-    /// Whether the first note at the lookup's place says since the stamp of the class reference that no method is found,
-    /// without a call.
+    /// Whether it is noted that no method is found, without a call. As [`recall`](Sender::recall), this looks at the
+    /// first note, and only if no change has affected the class since. False: ask [`find`](Sender::find).
     #[inline]
     pub fn recalls_none(&self, of: ClassRef, selector: Selector) -> bool {
         of.has_slot()
@@ -150,7 +154,8 @@ impl Sender {
         Ok(count)
     }
 
-    /// Since how many changes none has affected the class reference; the sender has then seen all.
+    /// No change after so many has affected the class reference. From a change of it until its next fill (a find that
+    /// misses makes one) it is 2^64 - 1: then nothing noted counts. The sender has then seen all changes.
     pub fn stamp(&mut self, of: ClassRef) -> Result<u64, Fault> {
         let mut count = 0;
         Fault::of(unsafe { sys::msg_stamp(&mut *self.raw, of.number, of.meta, &mut count) })?;
@@ -190,7 +195,7 @@ fn row(of: ClassRef, selector: Selector) -> sys::msg_lookup_row {
     }
 }
 
-/// A closed sender, made in place: 256 KiB would be much of a small stack.
+/// A closed sender, made in place: 512 KiB would be much of a small stack.
 fn closed() -> Box<sys::msg_sender> {
     let layout = Layout::new::<sys::msg_sender>();
     // SAFETY: zero bytes are a closed sender, and the layout is that of the box.

@@ -447,3 +447,9 @@ fn types_are_read() {
     assert_eq!((16, 32, 2), (member.first, member.last, member.align));
     assert_eq!(None, yeldrost::next_member(b"}", 8));
 }
+
+#[test]
+fn the_library_is_of_the_version_of_the_crates() {
+    let version = yeldrost_sys::MSG_VERSION_NUMBER;
+    assert_eq!(version, unsafe { yeldrost_sys::msg_version() });
+}

@@ -14,7 +14,7 @@ static const method methods[] = {forward, four, area};  /* my implementations, f
 static msg_runtime runtime = MSG_RUNTIME_INIT;
 /* held to change or to ask; msg_find takes it after a miss */
 static pthread_mutex_t lock = PTHREAD_MUTEX_INITIALIZER;
-/* one for each thread; 256 KiB, so off the stack; all zero bytes is a closed handle */
+/* one for each thread; 512 KiB, so off the stack; all zero bytes is a closed handle */
 static _Alignas(64) msg_sender mine, other;
 
 static void must(uint32_t fault) { if (fault) exit(1); }

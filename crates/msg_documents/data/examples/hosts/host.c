@@ -13,7 +13,7 @@ enum { AREA = 1, SIDES, COUNT };
 enum { FORWARD, SHAPE_AREA, SHAPE_SIDES, SHAPE_COUNT, SQUARE_AREA, METHODS };
 
 /* What the library says of a sender's handle, msg_sender_size, is proved to be this. */
-_Static_assert(sizeof(msg_sender) == 262160, "the header's sender isn't the library's");
+_Static_assert(sizeof(msg_sender) == 524384, "the header's sender isn't the library's");
 
 typedef struct { uint32_t class_, side; } object;
 typedef uint32_t (*method)(object *self);

@@ -12,8 +12,10 @@ struct Handle {
 #[repr(C)]
 struct SenderHandle {
     handle: Handle,
-    notes: [Note; 4096],
-    second_notes: [Note; 4096],
+    written: [bool; 64],
+    unused: [u64; 2],
+    notes: [Note; 8192],
+    second_notes: [Note; 8192],
 }
 
 #[repr(C)]
@@ -102,8 +104,10 @@ impl Runtime {
     /// By its lifetime the sender goes to calls on this runtime alone, and is closed before it.
     pub fn sender(&self) -> Result<Sender<'_>, u32> {
         assert_eq!(size_of::<SenderHandle>(), unsafe { msg_sender_size() });
-        let notes = [BLANK; 4096];
-        let mut raw = Box::new(SenderHandle { handle: CLOSED, notes, second_notes: notes });
+        let notes = [BLANK; 8192];
+        let (written, unused) = ([false; 64], [0; 2]);
+        let mut raw =
+            Box::new(SenderHandle { handle: CLOSED, written, unused, notes, second_notes: notes });
         let fault = unsafe { msg_sender_open(&mut *self.raw.lock().unwrap(), &mut *raw) };
         answer(fault, ())?;
         Ok(Sender { runtime: self, raw })

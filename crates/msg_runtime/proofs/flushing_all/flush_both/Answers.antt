@@ -1,0 +1,21 @@
+use Rattle.std.proofs.Common.{◌≡◌, Some, ap, sym, ◌∙◌, ⊎_elim}
+use Rattle.msg_names.proofs.ClassRefLemmas.{slot_of-same}
+use Rattle.msg_tables.specs.Journal.{place_of}
+use Rattle.msg_runtime.proofs.FlushedLemmas.{told-both, told-too}
+use Rattle.msg_runtime.proofs.flushing_all.flush_both.Goals as goal
+
+-- both wrote at one place
+pub returns-then-slot-clause-flushed : goal.returns-then-slot-clause-flushed
+returns-then-slot-clause-flushed c = λ h stands d told.
+    let one = c.in-Some-Some.one in
+    let same : one ≡ c.in-Some-Some.other = slot_of-same one c.in-Some-Some.other (sym c.slot.ensures ∙ c.if-slot.true ∙ c.slot-in-Some-Some.ensures) in
+    let first : place_of c.args.first ≡ Some one = sym c.in-Some-Some.ensures.place in
+    let second : place_of c.args.second ≡ Some one = sym c.in-Some-Some.ensures'.place ∙ ap Some (sym same) in
+    c.flush_entry.ensures.flushed h stands d
+    (⊎_elim (λ before. before) (λ now. told-too h c.args.first c.args.second one d first second now) (told-both h c.args.first c.args.second d told))
+
+pub returns-clause-flushed : goal.returns-clause-flushed
+returns-clause-flushed c = λ h stands d told.
+    ⊎_elim (λ before. c.flush_entry-2.ensures.others d (c.flush_entry.ensures.flushed h stands d before))
+    (λ now. c.flush_entry-2.ensures.flushed h stands d now)
+    (told-both h c.args.first c.args.second d told)
