@@ -23,8 +23,8 @@ static size_t place_of(nat slot, nat sel) { return (size_t)(key_of(slot, sel) / 
 static _Alignas(64) unsigned char bytes[sizeof(msg_sender)];
 #define SENDER ((msg_sender *)(void *)bytes)
 
-/* The note at a place of the spec: as repr(C) lays out Note, behind the 96 bytes of SenderHandle's and
- * Notes's first fields. */
+/* The note at a place of the spec: as repr(C) lays out Note, behind the 96 bytes of SenderHandle's
+ * and Notes's first fields. */
 #define LOAD(type, from) (*(const type *)(const void *)&bytes[from])
 static msg_note note_at(size_t at)
 {
@@ -104,7 +104,8 @@ void slots_are_the_spec(void)
     bool meta = any != 0; /* 0 or 1: cbmc has more bools */
     nat slot = 2 * (nat)number + meta, most = (nat)1 << 26;
     __CPROVER_assert(MSG_SLOTS == most, "2^26 slots");
-    __CPROVER_assert(msg_slot(number, meta) == (slot < most ? slot : most), "or MSG_SLOTS if beyond");
+    nat wanted = slot < most ? slot : most;
+    __CPROVER_assert(msg_slot(number, meta) == wanted, "or MSG_SLOTS if beyond");
 }
 
 /* ---- recalls: what the first note says, and so what the proved msg_recall answers since the
