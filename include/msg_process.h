@@ -45,13 +45,13 @@
  * after it, or block the signal while the lock is held. msg_process_find and
  * the locks also return MSG_LOCK_HELD to a handler whose own thread has the
  * lock, and are right in one otherwise. But they may wait for a thread that
- * wants memory, and a thread's first find takes some: so don't call them if
- * malloc may be what the handler interrupted. A handler ends by its return, and
- * no thread is cancelled asynchronously.
+ * wants memory: so don't call them if malloc may be what the handler
+ * interrupted. A handler ends by its return, and no thread is cancelled
+ * asynchronously.
  *
  * Rule: start while the process has fewer than 32 thread keys
  * (pthread_key_create). With more, glibc takes memory in a thread's first find,
- * also by msg_process_find_at_once or after msg_process_spare.
+ * also by msg_process_find_at_once.
  *
  * msg_runtime.h promises nothing of its calls in handlers and in a forked
  * child: that they work there is tested (tools/test/process), not proved. */
@@ -68,7 +68,8 @@ extern "C" {
 
 /* Opens the runtime of the process, once. With NULL all is the default.
  *
- * Faults: MSG_ALREADY_OPEN at a second time, else those of msg_open. */
+ * Faults: MSG_ALREADY_OPEN at a second time, else those of msg_open.
+ * MSG_NO_MEMORY also comes if the process has no thread key left. */
 uint32_t msg_process_start(const msg_config *config);
 /* Takes the lock, and gives the runtime, to ask and to change it.
  *
@@ -122,19 +123,11 @@ uint32_t msg_process_seen_by_all(uint64_t *changes, uint64_t *thread);
 
 /* ---- finding, from any thread ---- */
 
-/* Opens one sender ahead, if fewer than two are spare and the runtime is
- * started. A thread's first find then takes it, and no memory. Call it by a
- * thread that may take memory, outside the lock: twice after the start, and
- * again where the program allocates.
- *
- * Cost: a load if senders are spare. */
-void msg_process_spare(void);
-
 enum { MSG_WAITS_NOT, MSG_WAITS, MSG_WAITS_A_WHILE };
 /* The inline calls below go on here if the first note at the key's place
  * doesn't tell what is found, or wasn't asked. The second one is asked first.
- * `waits` says whether the call waits for the lock. A while is a second at
- * most, and ends if a fork has the lock.
+ * `waits` says whether the call waits for the lock. A while is about a second,
+ * and ends if a fork has the lock.
  *
  * Faults: those of msg_process_find, and MSG_LOCK_HELD if the lock isn't to be
  * had so. */
@@ -183,7 +176,7 @@ static inline uint64_t msg_process_stamp(const msg_note *note)
 {
     __atomic_signal_fence(__ATOMIC_SEQ_CST);
     return msg_stamp_of(
-        __atomic_load_n(&msg_process_words.at, __ATOMIC_RELAXED), note);
+        __atomic_load_n(&msg_process_words.at, __ATOMIC_ACQUIRE), note);
 }
 
 /* msg_process_find of a key, for a host that keeps 2 * number + meta times

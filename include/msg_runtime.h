@@ -50,9 +50,10 @@
  *     a thread's start or join.
  *   - A sender goes only to calls on the runtime that it was opened from. (This
  *     is the one `requires` that no call can test.)
- *   - malloc, realloc and free are the C library's, and there is enough stack.
- *     No proof bounds how much. Threads that find have run with as little as
- *     64 KiB (trusted/process/measure/rests.c).
+ *   - malloc, realloc and free are the C library's (trusted/process/memory.c
+ *     stands between), and there is enough stack. No proof bounds how much.
+ *     Threads that find have run with as little as 64 KiB
+ *     (trusted/process/measure/rests.c).
  *   - No call is made in a signal handler, or in the forked child of a process
  *     with threads. msg_process.h does that, with a lock and a sender for each
  *     thread.
@@ -193,7 +194,8 @@ typedef struct {
     /* How many may be open at once: 1,024 by default, at most 16,384. */
     uint32_t senders;
     /* How many arrays of 4, 8, .., 1,024 entries there are for caches, at most
-     * 65,535 of each. All 0 is 4,096 2,048 512 256 128 64 32 16 8. */
+     * 65,535 of each. All 0 is 4,096 2,048 512 256 128 64 32 16 8. If one isn't
+     * 0, a 0 there is none: give all nine. */
     uint32_t arrays[9];
 } msg_config;
 
@@ -246,7 +248,8 @@ enum {
 /* Opens a runtime without classes and without changes. A host in C calls
  * msg_open, which gives the fields of a msg_config as `config`, `words` many.
  * Fields that lack are the default. Fields that the library does not know have
- * to be 0. So hosts of older and newer headers are understood, or refused.
+ * to be 0. So hosts with an older or a newer msg_config are understood, or
+ * refused.
  *
  * Faults: MSG_ALREADY_OPEN, MSG_NO_MEMORY, MSG_BAD_CONFIG.
  * Cost: all arrays and class numbers are written. */
@@ -415,7 +418,8 @@ uint32_t msg_change_all(msg_runtime *runtime, const msg_change *changes,
  * which has `room` entries. Made as one directly afterwards they take the list
  * back. After another change of the same methods or classes they may be
  * refused. Or they are accepted, and overwrite or remove what others put there.
- * So such lists are taken back in reverse order.
+ * So such lists are taken back in reverse order. The superclass of a class that
+ * the list took away counts as such a class, too.
  *
  * Each accepted list has a way back. It has a change each time that the list
  * adds, writes or takes away a method, or makes or takes away a class. The same
@@ -495,7 +499,8 @@ uint32_t msg_seen_by_all(msg_runtime *runtime, uint64_t *count);
 /* ---- sending, without a lock ---- */
 
 /* The library's MSG_VERSION_NUMBER: a host that may meet another library
- * compares it with its own. */
+ * compares it with its own. While the major version is 0 that isn't enough:
+ * compare msg_sender_size with sizeof(msg_sender), too. */
 uint32_t msg_version(void);
 /* How many bytes a msg_sender has, for hosts that don't compile this header. */
 size_t msg_sender_size(void);
@@ -565,8 +570,8 @@ uint32_t msg_stamp(msg_sender *sender, uint32_t number, bool meta,
 uint32_t msg_texts_open(msg_texts *texts);
 /* Closes texts and gives their memory back. */
 uint32_t msg_texts_close(msg_texts *texts);
-/* The text's number (sel_registerName). A new text gets the next one; only then
- * is memory wanted.
+/* The text's number (sel_registerName). A new text gets the next one, and is
+ * copied; only then is memory wanted.
  *
  * Faults: MSG_LIMIT if 2^32 - 1 texts are there, MSG_NO_MEMORY. */
 uint32_t msg_texts_intern(msg_texts *texts, const uint8_t *text, size_t length,
@@ -707,6 +712,7 @@ static inline const char *msg_fault_text(uint32_t fault)
     do { \
         time_t msg_end = time(NULL) + MSG_PATIENCE; \
         while (pthread_mutex_trylock(lock)) { \
+            (void)msg_end; /* where assert is compiled away */ \
             MSG_TEST(time(NULL) <= msg_end && \
                      "the lock isn't given: does this thread hold it?"); \
             sched_yield(); \

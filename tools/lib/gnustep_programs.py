@@ -1,5 +1,5 @@
-"""Debian's programs for GNUstep over libobjc and over the shim, with inputs that are made here;
-their times; and bundles loaded beside threads that send: what tools/test/gnustep asks."""
+"""What tools/test/gnustep asks of Debian's programs for GNUstep, over libobjc and over the shim:
+what they print and write, their times, and bundles that are loaded beside threads that send."""
 import bz2
 import difflib
 import glob
@@ -17,171 +17,152 @@ import zipfile
 
 import gnustep
 import measure
-import packages
-from words import text_at, write_at
+from words import bytes_at, text_at, write_at
 
-PLUGIN = "/usr/lib/openvpn/openvpn-auth-ldap.so"
-HEADERS = "/usr/include/GNUstep/Foundation"
 BUNDLES = 12
 # The aims are 1.0 of the time, of which a twentieth is noise, and 1.1 of the instructions.
-MOST_TIME, MOST_INSTRUCTIONS = 1.05, 1.1
-LONG = (("NSRegularExpression", "basic"), ("PropertyLists", "test01"), ("NSJSONSerialization", "tests00"), ("NSLock", "tryLock"), ("GSMime", "general"), ("NSURLConnection", "test03"))
+MOST_TIMED = {"seconds": 1.05, "instructions": 1.1}
+# those of the table of whole programs
+MOST = {"instructions": 0.9, "resident": 1.1}
+UNITS = {"seconds": 1, "instructions": 1e6, "resident": 1024}
+LONG = ("NSRegularExpression/basic", "PropertyLists/test01", "NSJSONSerialization/tests00",
+        "NSLock/tryLock", "GSMime/general", "NSURLConnection/test03")
+ROUNDS = (2, 4)
+SERVER = ("sogo", "postgresql", "memcached")
+RUNS = ("plmerge new.plist plain.plist large.plist", "gspath path", "defaults domains",
+        "plparse plain.plist", "xmlparse page.xml", "lsar one.zip", "sogo-tool", "gdnc --no-fork")
 TIMED = 'TIMEFORMAT="processors %U %S"; time "$@" > /dev/null 2>&1'
-AUTOGSDOC = f"autogsdoc -Project Foundation -HeaderDirectory {HEADERS} -DocumentationDirectory doc -GenerateHtml YES NSArray.h NSDictionary.h NSString.h NSObject.h NSDate.h NSBundle.h"
-MEANT = {"name": "plain", "count": 17, "half": 0.5, "on": True, "bytes": b"\0\1\2", "list": ["one", {"two": 2}, ["three"]]}
-
-SERVED = "python3 ldap_server.py 3389 & sleep 1; ./ldap " + PLUGIN
-
-# By their names, the commands that are run in a copy of the folder of inputs. (cvtenc -EscapeOut
-# writes bytes that it never set, which differ from run to run.)
-CASES = {
-    "gspath": "for what in defaults libpath path user; do gspath $what; done; gspath none",
-    "plparse": "plparse plain.plist xml.plist large.plist binary.plist broken.plist none",
-    "plmerge": "plmerge merged.plist plain.plist another.plist; plmerge new.plist plain.plist large.plist",
-    "plser": "for f in NSPropertyListOpenStepFormat NSPropertyListXMLFormat_v1_0 NSPropertyListBinaryFormat_v1_0 NSPropertyListGNUstepFormat NSPropertyListGNUstepBinaryFormat; do plser -Format $f plain.plist large.plist > out.$f; done",
-    "pldes": "plser -Format NSPropertyListGNUstepBinaryFormat plain.plist > serialized; pldes serialized; pldes binary.plist; pldes broken.plist",
-    "plget": "plget name < plain.plist; plget list < plain.plist; plget none < plain.plist",
-    "pl": "pl < plain.plist; pl -output serialized < plain.plist; pl -input serialized; pl < broken.plist",
-    "pl2link": "pl2link desktop.plist out.desktop",
-    "plutil": "for f in xml1 binary1 json openstep; do plutil -convert $f -o - plain.plist > out.$f; done; plutil -convert xml1 plain.plist; plutil -lint xml.plist; plutil -p xml.plist",
-    "the page's twenty lines": "./untold",
-    "plutil, wrong": "plutil; plutil -lint none; plutil -lint broken.plist; plutil -nothing plain.plist",
-    "defaults": "defaults write Domain key value; defaults write Domain list '(1, 2)'; defaults read Domain; defaults read Domain key; defaults delete Domain key; defaults read Domain; defaults domains; defaults find list; defaults read None",
-    "sfparse": "sfparse words.strings; sfparse --utf8 words.strings; sfparse --unicode words.strings; sfparse broken.plist",
-    "cvtenc": "cvtenc -Encoding NSISOLatin1StringEncoding latin.txt > wide; cvtenc -Encoding NSUTF8StringEncoding wide > utf8; cvtenc -Encoding none latin.txt; cvtenc -Encoding NSUTF8StringEncoding latin.txt",
-    "xmlparse": "xmlparse page.xml; xmlparse broken.xml; xmlparse xml.plist",
-    "HTMLLinker": "mkdir linked; HTMLLinker -FixupAllLinks YES page.html -l other.html -d linked; HTMLLinker -LinksMarker dynamical page.html -d linked",
-    "make_strings": "mkdir English.lproj German.lproj; make_strings -L English Small.m; make_strings --verbose --aggressive-match -L 'English German' Small.m Small.h",
-    "autogsdoc": "autogsdoc -Project Small -DocumentationDirectory doc -Standards YES -GenerateHtml YES Small.h Small.m",
-    "autogsdoc, broken": "autogsdoc -Project Broken -DocumentationDirectory doc broken.xml broken.plist none.h",
-    "autogsdoc, Foundation": AUTOGSDOC,
-    "gdomap": "gdomap -p -f & sleep 1; gdomap -N; gdomap -L none; gdomap -P 1234 -T tcp_gdo -R there; gdomap -N",
-    "lsar": "for a in one.*; do lsar $a; lsar -l $a; lsar -j $a; done; lsar broken.zip; lsar none.zip",
-    "lsar -t": "for a in one.*; do lsar -t $a; done",
-    "unar": "for a in one.*; do unar -o ${a#one.} $a; done",
-    "unar, wrong": "unar broken.zip; unar plain.plist; unar none.zip; unar -o in one.zip; unar -s -o in one.zip; unar -f -o in one.zip",
-    "openvpn-auth-ldap": f"{SERVED} any.conf alice right alice wrong bob right alice ''",
-    "openvpn-auth-ldap, a group": f"{SERVED} group.conf alice right bob right",
-    "openvpn-auth-ldap, no server": f"./ldap {PLUGIN} any.conf alice right",
-    "openvpn-auth-ldap, wrong": f"./ldap {PLUGIN} broken.plist; ./ldap {PLUGIN} none; ./ldap {PLUGIN} half.conf",
-}
+MEANT = {"name": "plain", "count": 17, "half": 0.5, "on": True, "bytes": b"\0\1\2",
+         "list": ["one", {"two": 2}, ["three"]]}
+# The commands of each case, by its name; they are run in a copy of the folder of inputs.
+CASES = dict(it.split("\n", 1) for it in text_at(gnustep.OWN, "cases").split("== ")[1:])
 # Where libobjc is wrong: what ours must tell.
-UNTOLD = "libobjc never initializes the class that reads property lists, since a +load replaces a method of it before its first message: plutil reads none"
-BETTER = {"plutil": UNTOLD, "plutil, wrong": UNTOLD, "the page's twenty lines": "as plutil's: the class is initialized once"}
-TELLS = {"the page's twenty lines": "read 2, initialized 1 times"}
-TELLING = """{ %s; } 2>&1
+UNTOLD = ("libobjc never initializes the class that reads property lists, since a +load replaces a "
+          "method of it before its first message: plutil reads none")
+PAGE = "the page's twenty lines"
+BETTER = {"plutil": UNTOLD, "plutil, wrong": UNTOLD,
+          PAGE: "as plutil's: the class is initialized once"}
+TELLS = {PAGE: "read 2, initialized 1 times"}
+TELLING = """{ %s
+} 2>&1
 echo "ended with $?"
-find . -type f -newer .begun | sort | while read -r file; do echo "wrote $file"; cat "$file"; echo; done
+find . -type f -newer .begun | sort | while read -r file; do
+    echo "wrote $file"; cat "$file"; echo
+done
 cp -r . "$KEPT" 2> /dev/null
 """
+PACKED = {"first.txt": "first\n" * 2000, "inner/second": "\0\1\2" * 5000,
+          "inner/deeper/n\u00e4me.txt": "third", "inner/empty": ""}
+ZIPPED = {"zip": zipfile.ZIP_DEFLATED, "stored.zip": zipfile.ZIP_STORED,
+          "bz.zip": zipfile.ZIP_BZIP2, "lzma.zip": zipfile.ZIP_LZMA}
+TARRED = {"tar": "w", "tgz": "w:gz", "tbz2": "w:bz2", "txz": "w:xz"}
+ALONE = {"txt.gz": lambda data: gzip.compress(data, mtime=0), "txt.bz2": bz2.compress,
+         "txt.xz": lzma.compress, "txt.lzma": lambda data: lzma.compress(data, lzma.FORMAT_ALONE)}
 
 
 def make_texts(place):
     for name, kind in (("xml", plistlib.FMT_XML), ("binary", plistlib.FMT_BINARY)):
-        with open(f"{place}/{name}.plist", "wb") as file:
-            plistlib.dump(MEANT, file, fmt=kind)
-    rows = " ".join(f'key{i} = ({i}, "text {i}", {{ inner = <{i:08x}>; other = "a\\"b"; }});' for i in range(2000))
-    write_at("{ " + rows + " }\n", place, "large.plist")
-    with open(f"{place}/latin.txt", "wb") as file:
-        file.write("caf\u00e9 na\u00efve \u00fcber\n".encode("latin1") * 50)
+        write_at(plistlib.dumps(MEANT, fmt=kind), place, f"{name}.plist")
+    row = 'key{0} = ({0}, "text {0}", {{ inner = <{0:08x}>; other = "a\\"b"; }});'
+    write_at(f"{{ {' '.join(map(row.format, range(2000)))} }}\n", place, "large.plist")
+    write_at("caf\u00e9 na\u00efve \u00fcber\n".encode("latin1") * 50, place, "latin.txt")
 
 
 def make_archives(place):
     packed = f"{place}/packed"
     os.makedirs(f"{packed}/inner/deeper")
-    for name, text in (("first.txt", "first\n" * 2000), ("inner/second", "\0\1\2" * 5000), ("inner/deeper/n\u00e4me.txt", "third"), ("inner/empty", "")):
+    for name, text in PACKED.items():
         write_at(text, packed, name)
-    for folder, folders, names in os.walk(packed):
-        for name in folders + names:
-            os.utime(os.path.join(folder, name), (1_600_000_000, 1_600_000_000))
-    os.utime(packed, (1_600_000_000, 1_600_000_000))
-    for end, how in (("zip", zipfile.ZIP_DEFLATED), ("stored.zip", zipfile.ZIP_STORED), ("bz.zip", zipfile.ZIP_BZIP2), ("lzma.zip", zipfile.ZIP_LZMA)):
+    files = sorted(glob.glob(f"{packed}/**", recursive=True))
+    for path in files:
+        os.utime(path, (1_600_000_000, 1_600_000_000))
+    for end, how in ZIPPED.items():
         with zipfile.ZipFile(f"{place}/one.{end}", "w", how) as archive:
-            for path in sorted(glob.glob(f"{packed}/**", recursive=True)):
+            for path in files:
                 archive.write(path, os.path.relpath(path, place))
-    for end, mode in (("tar", "w"), ("tgz", "w:gz"), ("tbz2", "w:bz2"), ("txz", "w:xz")):
+    for end, mode in TARRED.items():
         with tarfile.open(f"{place}/one.{end}", mode) as archive:
             archive.add(packed, "packed")
-    text = b"a line of a file\n" * 3000
-    for end, pack in (("txt.gz", lambda data: gzip.compress(data, mtime=0)), ("txt.bz2", bz2.compress), ("txt.xz", lzma.compress), ("txt.lzma", lambda data: lzma.compress(data, lzma.FORMAT_ALONE))):
-        with open(f"{place}/one.{end}", "wb") as file:
-            file.write(pack(text))
-    with open(f"{place}/one.zip", "rb") as whole, open(f"{place}/broken.zip", "wb") as half:
-        half.write(whole.read()[:900])
+    for end, pack in ALONE.items():
+        write_at(pack(b"a line of a file\n" * 3000), place, f"one.{end}")
+    write_at(bytes_at(place, "one.zip")[:900], place, "broken.zip")
 
 
 def make_inputs(folder):
-    place = os.path.join(folder, "inputs")
+    place = f"{folder}/inputs"
     shutil.rmtree(place, ignore_errors=True)
-    shutil.copytree(os.path.join(gnustep.OWN, "inputs"), place)
+    shutil.copytree(f"{gnustep.OWN}/inputs", place)
     make_texts(place)
     make_archives(place)
-    shutil.copy(os.path.join(gnustep.OWN, "ldap_server.py"), place)
-    subprocess.run(["gcc-12", "-w", os.path.join(gnustep.OWN, "ldap.c"), "-ldl", "-o", os.path.join(place, "ldap")], check=True)
+    shutil.copy(f"{gnustep.OWN}/ldap_server.py", place)
+    words = ["gcc-12", "-w", f"{gnustep.OWN}/ldap.c", "-ldl", "-o", f"{place}/ldap"]
+    subprocess.run(words, check=True)
     source = re.search(r"```objc\n(.*?)```", text_at("docs", "OBJECTIVE-C.md"), re.S)[1]
-    subprocess.run(["gcc-12", "-x", "objective-c", "-w", "-", "-x", "none", "-lobjc", "-o", os.path.join(place, "untold")], input=source, text=True, check=True)
-    open(os.path.join(place, ".begun"), "w", encoding="utf-8").close()
+    words = ["gcc-12", "-x", "objective-c", "-w", "-", "-x", "none", "-lobjc"]
+    subprocess.run([*words, "-o", f"{place}/untold"], input=source, text=True, check=True)
+    write_at("", place, ".begun")
     return place
-
-
-def told(text):
-    for pattern, put in (*gnustep.CHANGING, (r'(XADFirstSolidEntry": ").*', r"\1ADDRESS")):
-        text = re.sub(pattern, put, text)
-    return text
 
 
 def plutil_is_right(kept):
     """Whether what it converted is what was meant."""
-    with open(os.path.join(kept, "plain.plist"), "rb") as file:
-        read = plistlib.load(file)
-    return read["name"] == "plain" and read["bytes"] == b"\0\1\2" and read["list"][1] == {"two": "2"}
+    read = plistlib.loads(bytes_at(kept, "plain.plist"))
+    wanted = ["plain", b"\0\1\2", {"two": "2"}]
+    return [read["name"], read["bytes"], read["list"][1]] == wanted
 
 
 def run_case(place, name, command, library, given):
-    kept = os.path.join(given.folder, "kept", library.title)
+    kept = f"{given.folder}/kept/{library.title}"
     shutil.rmtree(kept, ignore_errors=True)
     os.makedirs(kept)
-    _, _, text = gnustep.run(["sh", "-c", TELLING % command], library, given.seconds, copied=place, env={"KEPT": kept})
-    text = told(text)
+    words, env = ["sh", "-c", TELLING % command], {"KEPT": kept}
+    _, text = gnustep.run(words, library, given.seconds, copied=place, env=env)
+    text = gnustep.steady(text, (r'(XADFirstSolidEntry": ").*', r"\1ADDRESS"))
     write_at(text, given.folder, "kept", f"{name}.{library.title}")
     return text, kept
 
 
-def run_programs(ours, given):
-    libraries = [gnustep.Library("libobjc"), gnustep.Library("the shim", ours)]
-    place, same, right = make_inputs(given.folder), 0, True
-    cases = {name: command for name, command in CASES.items() if not given.names or name in given.names}
+def chosen(table, given):
+    return {name: it for name, it in table.items() if not given.names or name in given.names}
+
+
+def run_programs(libraries, given):
+    place, same, right, cases = make_inputs(given.folder), 0, True, chosen(CASES, given)
     for name, command in cases.items():
-        (theirs, _), (here, kept) = (run_case(place, name, command, library, given) for library in libraries)
+        told = [run_case(place, name, command, library, given) for library in libraries]
+        (theirs, _), (here, kept) = told
         if theirs == here:
             same += 1
             continue
-        better = name in BETTER and TELLS.get(name, "") in here and (name != "plutil" or plutil_is_right(kept))
+        better = name in BETTER and TELLS.get(name, "") in here
+        better = better and (name != "plutil" or plutil_is_right(kept))
         right = right and better
         print(f"{name}: differs" + (f", in our favour: {BETTER[name]}" if better else ""))
-        lines = list(difflib.unified_diff(theirs.splitlines(), here.splitlines(), "libobjc", "the shim", lineterm="", n=0))
-        print("".join(f"    {line[:160]}\n" for line in lines[:12]), end="", flush=True)
-    print(f"{len(cases)} sets of runs of Debian's programs: {same} with the same output, endings and files over both")
+        both = (theirs.splitlines(), here.splitlines())
+        lines = difflib.unified_diff(*both, "libobjc", "the shim", lineterm="", n=0)
+        print("".join(f"    {line[:160]}\n" for line in [*lines][:12]), end="", flush=True)
+    what = f"{len(cases)} sets of runs of Debian's programs"
+    print(f"{what}: {same} with the same output, endings and files over both")
     return right
 
 
 def make_bundles(folder):
-    place = os.path.join(folder, "loaded")
-    os.makedirs(place, exist_ok=True)
+    place = f"{folder}/loaded"
     for number in range(BUNDLES):
-        resources = os.path.join(place, f"B{number}.bundle", "Resources")
-        os.makedirs(resources, exist_ok=True)
-        write_at(f"{{ NSExecutable = B{number}; NSPrincipalClass = Loaded{number}_00; }}\n", resources, "Info-gnustep.plist")
-        gnustep.build(folder, "bundle.m", "-shared", "-fPIC", f"-DN={number}", built=os.path.join(os.path.dirname(resources), f"B{number}"))
+        bundle, title = f"{place}/B{number}.bundle", f"Loaded{number}_00"
+        os.makedirs(f"{bundle}/Resources", exist_ok=True)
+        text = f"{{ NSExecutable = B{number}; NSPrincipalClass = {title}; }}\n"
+        write_at(text, bundle, "Resources", "Info-gnustep.plist")
+        words = ["-shared", "-fPIC", f"-DN={number}"]
+        gnustep.build(folder, "bundle.m", *words, built=f"{bundle}/B{number}")
     return place
 
 
 def load_bundles(program, place, library, given):
-    """The times of loading, the count of wrong answers, and how runs ended that ended otherwise
-    than they must."""
-    took, wrong, ended = [], 0, []
+    """The times of loading, the count of wrong answers, and the statuses of runs that failed."""
+    took, wrong, ended, words = [], 0, [], [program, place, str(BUNDLES)]
     for _ in range(given.runs):
-        status, _, text = gnustep.run([program, place, str(BUNDLES)], library, given.seconds, place=place)
+        status, text = gnustep.run(words, library, given.seconds, place=place)
         found = re.search(r"^(\d+) (\d+) ([\d.]+)$", text, re.M)
         if status or not found:
             ended.append(status)
@@ -191,132 +172,127 @@ def load_bundles(program, place, library, given):
     return took, wrong, ended
 
 
-def run_bundles(ours, given):
+def run_bundles(libraries, given):
     """Whether no send was lost over ours, and loading took no longer."""
-    place = make_bundles(given.folder)
-    program = gnustep.build(given.folder, "bundles.m", "-lgnustep-base", "-lobjc", "-pthread")
-    medians = []
-    for library in (gnustep.Library("libobjc"), gnustep.Library("the shim", ours)):
+    place, medians = make_bundles(given.folder), []
+    words = ["-lgnustep-base", "-lobjc", "-pthread"]
+    program = gnustep.build(given.folder, "bundles.m", *words)
+    for library in libraries:
         took, wrong, ended = load_bundles(program, place, library, given)
         medians.append(statistics.median(took or [0]))
-        print(f"{library.title}: {BUNDLES} bundles loaded beside three senders in {medians[-1]:.1f} ms, the median of {len(took)} runs with {wrong} wrong answers; {len(ended)} runs ended otherwise{f': with {ended}' if ended else ''}")
+        print(f"{library.title}: {BUNDLES} bundles loaded beside three senders in "
+              f"{medians[-1]:.1f} ms, the median of {len(took)} runs with {wrong} wrong answers; "
+              f"{len(ended)} runs ended otherwise{f': with {ended}' if ended else ''}")
     return bool(took) and not wrong and not ended and medians[1] <= medians[0]
+
+
+def figure(pattern, text):
+    return int(re.search(pattern, text, re.M)[1])
+
+
+def counted(words, library, copied, start=()):
+    """Instructions."""
+    words = [*start, *measure.CALLGRIND, *words]
+    return figure(r"Collected *: (\d+)", gnustep.run(words, library, 600, copied=copied)[1])
+
+
+def row(title, kind, theirs, ours, most, ratio=None):
+    """Whether the ratio is within the aim."""
+    ratio, digits = ratio or ours / theirs, 3 if kind == "seconds" else 1
+    both = (f"{it / UNITS[kind]:,.{digits}f}" for it in (theirs, ours))
+    measure.row(title, kind, *both, f"{ratio:.3f}")
+    return ratio <= most[kind]
+
+
+def head(of):
+    print(of + "\n")
+    measure.table("", "", "libobjc", "the shim", "ratio")
 
 
 def seconds(words, library, given, copied):
     """Of processors, without what the namespaces take."""
-    _, _, text = gnustep.run(["bash", "-c", TIMED, "bash", *words], library, given.seconds, copied=copied)
-    return sum(map(float, re.search(r"^processors ([\d.]+) ([\d.]+)$", text, re.M).groups()))
+    words = ["bash", "-c", TIMED, "bash", *words]
+    _, text = gnustep.run(words, library, given.seconds, copied=copied)
+    return sum(map(float, re.search(r"(?m)^processors ([\d.]+) ([\d.]+)$", text).groups()))
 
 
-def instructions(words, library, copied):
-    _, _, text = gnustep.run([*measure.CALLGRIND, *words], library, 600, copied=copied)
-    return int(re.search(r"Collected *: (\d+)", text)[1])
-
-
-def long_runs(suite, given):
+def run_times(suite, libraries, given):
+    """Of whole programs, in turns over both: whether no median ratio is above the aims."""
     start = gnustep.build(given.folder, "start.m", "-lgnustep-base", "-lobjc")
-    inputs = make_inputs(given.folder)
-    runs = {f"{folder}/{name}": (["./obj/" + name], os.path.join(suite.base, folder)) for folder, name in LONG}
-    runs["autogsdoc of 6 headers"] = (AUTOGSDOC.split(), inputs)
-    runs["a small program"] = ([start], inputs)
-    return {title: run for title, run in runs.items() if not given.names or title in given.names}
-
-
-def run_times(suite, ours, given):
-    """Processors' time and instructions of whole programs, in turns over both: whether no median
-    ratio is above the aims."""
-    libraries, right = [gnustep.Library("libobjc"), gnustep.Library("the shim", ours)], True
-    print(f"| | seconds of processors, medians of {given.runs} runs: libobjc | the shim | ratio | millions of instructions: libobjc | the shim | ratio |\n|---|---|---|---|---|---|---|")
-    for title, (words, copied) in long_runs(suite, given).items():
-        pairs = [[seconds(words, library, given, copied) for library in libraries] for _ in range(given.runs)]
-        theirs, here = (statistics.median(times) for times in zip(*pairs))
+    inputs, right, runs = make_inputs(given.folder), True, {}
+    for folder, name in (it.split("/") for it in LONG):
+        runs[f"{folder}/{name}"] = (["./obj/" + name], f"{suite.base}/{folder}")
+    document = CASES["autogsdoc, Foundation"].replace("\\\n", "").split()
+    runs |= {"autogsdoc of 6 headers": (document, inputs), "a small program": ([start], inputs)}
+    head(f"Seconds of processors, medians of {given.runs} runs, and millions of instructions:")
+    for title, (words, copied) in chosen(runs, given).items():
+        pairs = [[seconds(words, library, given, copied) for library in libraries]
+                 for _ in range(given.runs)]
         ratio = statistics.median(mine / max(other, 0.001) for other, mine in pairs)
-        counts = [instructions(words, library, copied) for library in libraries]
-        print(f"| {title} | {theirs:.3f} | {here:.3f} | {ratio:.2f} | {counts[0] / 1e6:.1f} | {counts[1] / 1e6:.1f} | {counts[1] / counts[0]:.3f} |", flush=True)
-        right = right and counts[1] <= MOST_INSTRUCTIONS * counts[0] and ratio <= MOST_TIME
+        medians = map(statistics.median, zip(*pairs))
+        right &= row(title, "seconds", *medians, MOST_TIMED, ratio)
+        both = (counted(words, library, copied) for library in libraries)
+        right &= row(title, "instructions", *both, MOST_TIMED)
     return right
-
-
-# ---- the table of whole programs; the aims, of libobjc's
-TABLE_INSTRUCTIONS, MOST_RESIDENT = 0.9, 1.1
-ROUNDS = (2, 4)
-SERVER = ("sogo", "postgresql", "memcached")
-RUNS = {
-    "plmerge": "plmerge new.plist plain.plist large.plist", "gspath": "gspath path", "defaults": "defaults domains", "plparse": "plparse plain.plist",
-    "xmlparse": "xmlparse page.xml", "lsar": "lsar one.zip", "sogo-tool": "sogo-tool", "gdnc": "gdnc --no-fork",
-}
-
-
-def program(run, library, copied):
-    """Instructions and kibibytes."""
-    start = ["python3", os.path.join(gnustep.OWN, "until_idle.py")]
-    _, _, counted = gnustep.run([*start, *measure.CALLGRIND, *run.split()], library, 600, copied=copied)
-    _, _, plain = gnustep.run([*start, *run.split()], library, 60, copied=copied)
-    return int(re.search(r"Collected *: (\d+)", counted)[1]), int(re.search(r"^resident (\d+)", plain, re.M)[1])
 
 
 def session(library, rounds, *words):
     """Of sogod: what is counted of all, how many requests, and kibibytes."""
-    print(f"sogod over {library.title}, {rounds} rounds{', counted: a minute of a processor' if words else ''}", file=sys.stderr, flush=True)
-    _, _, text = gnustep.run(["python3", os.path.join(gnustep.OWN, "sogo.py"), str(rounds), *words], library, 3000, place="/var/tmp")
-    told, count = re.search(r"^requests (\d+) wrong (\d+) resident (\d+)$", text, re.M), re.search(r"Collected *: (\d+)", text)
+    more = ", counted: a minute of a processor" if words else ""
+    print(f"sogod over {library.title}, {rounds} rounds{more}", file=sys.stderr, flush=True)
+    words = ["python3", f"{gnustep.OWN}/sogo.py", str(rounds), *words]
+    _, text = gnustep.run(words, library, 3000, place="/var/tmp")
+    told = re.search(r"^requests (\d+) wrong (\d+) resident (\d+)$", text, re.M)
     if not told or told[2] != "0":
         raise ChildProcessError(f"over {library.title}: {told[0] if told else text[-300:]}")
-    return int(count[1]) if count else 0, int(told[1]), int(told[3])
+    return figure(r"Collected *: (\d+)", text) if more else 0, int(told[1]), int(told[3])
 
 
 def server(library):
     """Instructions of its start, of each request in a later round, and kibibytes."""
-    (few, asked, _), (many, more, _) = (session(library, rounds, *measure.CALLGRIND) for rounds in ROUNDS)
+    told = [session(library, rounds, *measure.CALLGRIND) for rounds in ROUNDS]
+    (few, asked, _), (many, more, _) = told
     each = (many - few) / (more - asked)
     return few - asked * each, each, session(library, ROUNDS[1])[2]
 
 
-def row(title, kind, theirs, ours, most):
-    unit = 1e6 if kind == "instructions" else 1024
-    print(f"| {title} | {kind} | {theirs / unit:,.1f} | {ours / unit:,.1f} | {ours / theirs:.2f} |", flush=True)
-    return ours <= most * theirs
-
-
-def run_table(ours, given):
-    """Whether each is within the aims."""
-    libraries, right = [gnustep.Library("libobjc"), gnustep.Library("the shim", ours)], True
-    no_server = "it wants root" if os.geteuid() else packages.lack(SERVER)
-    inputs = make_inputs(given.folder)
-    print("Millions of instructions, and MiB:\n\n| | | libobjc | the shim | ratio |\n|---|---|---|---|---|")
-    for title, run in RUNS.items():
-        if given.names and title not in given.names:
-            continue
-        if not shutil.which(title):
-            print(f"{title} isn't there: left out", file=sys.stderr)
-            continue
-        theirs, here = (program(run, library, inputs) for library in libraries)
-        right = row(title, "instructions", theirs[0], here[0], TABLE_INSTRUCTIONS) and right
-        right = row(title, "resident", theirs[1], here[1], MOST_RESIDENT) and right
-    if given.names and "sogod" not in given.names:
-        return right
+def run_server(libraries):
+    """Whether each is within the aims, or it can't be run here."""
+    no_server = "it wants root" if os.geteuid() else measure.lack(SERVER)
     if no_server:
         print(f"sogod: left out, {no_server}", file=sys.stderr)
-        return right
+        return True
     try:
-        theirs, here = (server(library) for library in libraries)
+        start, request, resident = zip(*map(server, libraries))
     except ChildProcessError as error:
         print(f"sogod: left out, since it doesn't run {error}", file=sys.stderr)
         return False
-    for title, kind, place, most in (("sogod, its start", "instructions", 0, TABLE_INSTRUCTIONS), ("sogod, a request", "instructions", 1, TABLE_INSTRUCTIONS), ("sogod", "resident", 2, MOST_RESIDENT)):
-        right = row(title, kind, theirs[place], here[place], most) and right
-    return right
+    right = row("sogod, its start", "instructions", *start, MOST)
+    right &= row("sogod, a request", "instructions", *request, MOST)
+    return row("sogod", "resident", *resident, MOST) and right
 
 
-def main(suite, ours, given):
-    right = True
-    if given.table:
-        right = run_table(ours, given)
-    if given.programs:
-        right = run_programs(ours, given) and right
-    if given.bundles:
-        right = run_bundles(ours, given) and right
-    if given.times:
-        right = run_times(suite, ours, given) and right
-    return right
+def run_table(libraries, given):
+    """Whether each is within the aims."""
+    inputs, right = make_inputs(given.folder), True
+    start = ["python3", f"{gnustep.OWN}/until_idle.py"]
+    head("Millions of instructions, and MiB:")
+    for title, run in chosen({it.split()[0]: it.split() for it in RUNS}, given).items():
+        if not shutil.which(title):
+            print(f"{title} isn't there: left out", file=sys.stderr)
+            continue
+        both = (counted(run, library, inputs, start) for library in libraries)
+        right &= row(title, "instructions", *both, MOST)
+        told = (gnustep.run([*start, *run], library, 60, copied=inputs) for library in libraries)
+        both = (figure(r"^resident (\d+)", text) for _, text in told)
+        right &= row(title, "resident", *both, MOST)
+    has_server = not given.names or "sogod" in given.names
+    return run_server(libraries) and right if has_server else right
+
+
+def main(suite, libraries, given):
+    told = [run_table(libraries, given)] if given.table else []
+    told += [run_programs(libraries, given)] if given.programs else []
+    told += [run_bundles(libraries, given)] if given.bundles else []
+    told += [run_times(suite, libraries, given)] if given.times else []
+    return all(told)

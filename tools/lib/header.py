@@ -1,34 +1,19 @@
-"""Reads include/msg_runtime.h and msg_process.h, for the tools that go by them: their calls,
-structures and constants, and what their comments say of them."""
-import os
+"""Reads include/msg_runtime.h and msg_process.h: their calls, structures and constants, and what
+their comments say of them."""
+import collections
 import re
-from typing import NamedTuple
 
 from words import ROOT, text_at
 
-HEADER = os.path.join(ROOT, "include", "msg_runtime.h")
-PROCESS = os.path.join(ROOT, "include", "msg_process.h")
+HEADER = f"{ROOT}/include/msg_runtime.h"
+PROCESS = f"{ROOT}/include/msg_process.h"
 COMMENT = re.compile(r"/\*.*?\*/", re.S)
 CALL = re.compile(r"^(static inline )?((?:const )?\w+ \**)(msg_\w+)\(([^)]*)\)", re.M)
 STRUCTURE = re.compile(r"typedef struct \{([^}]*)\} (\w+);|^struct (\w+) \{([^}]*)\};", re.M)
 CONSTANT = re.compile(r"(\w+) = (\d+)\b")
-
-
-class Call(NamedTuple):
-    """`parameters` are pairs of a type and a name."""
-
-    name: str
-    result: str
-    parameters: tuple
-    is_inline: bool
-
-
-class Field(NamedTuple):
-    """`count` is what stands between the brackets of an array, or nothing."""
-
-    name: str
-    type: str
-    count: str
+# `parameters` are pairs of a type and a name; an array has the `count` of its brackets
+Call = collections.namedtuple("Call", "name result parameters is_inline")
+Field = collections.namedtuple("Field", "name type count")
 
 
 def text_of(path=HEADER):
@@ -47,8 +32,8 @@ def parameter(words):
 
 def call_of(found):
     inline, result, name, parameters = found.groups()
-    pairs = tuple(parameter(it) for it in parameters.split(",")) if parameters.strip() not in ("", "void") else ()
-    return Call(name, result.strip(), pairs, bool(inline))
+    each = () if parameters.strip() in ("", "void") else parameters.split(",")
+    return Call(name, result.strip(), tuple(map(parameter, each)), bool(inline))
 
 
 def calls(text):
@@ -65,12 +50,14 @@ def fields_of(body):
 
 def structures(text):
     """The fields of each structure, by its name."""
-    return {one or other: list(fields_of(inner or body)) for inner, one, other, body in STRUCTURE.findall(code(text))}
+    found = STRUCTURE.findall(code(text))
+    return {one or other: list(fields_of(inner or body)) for inner, one, other, body in found}
 
 
 def enumerations(text):
-    """The numbers of each enumeration."""
-    return [{name: int(value) for name, value in CONSTANT.findall(body)} for body in re.findall(r"\benum \{([^}]*)\}", code(text))]
+    """The numbers of each."""
+    bodies = re.findall(r"\benum \{([^}]*)\}", code(text))
+    return [{name: int(value) for name, value in CONSTANT.findall(body)} for body in bodies]
 
 
 def constants(text):
@@ -89,11 +76,11 @@ def said_of(text):
 
 
 def groups(text):
-    """The header in its order: a title, ('title', words, more), of a group that has calls; or
-    ('calls', words, calls) for what one comment says of the calls behind it."""
+    """The header in its order. A group that has calls begins with ('title', words, more). What one
+    comment says of the calls behind it is ('calls', words, calls)."""
     parts, title = re.split(r"(/\*.*?\*/)", text, flags=re.S), None
     for comment, behind in zip(parts[1::2], parts[2::2]):
-        words = "\n".join(line.strip().lstrip("*").strip() for line in comment[2:-2].split("\n")).strip()
+        words = re.sub(r"(?m)^[ \t]*\**[ \t]*|[ \t]+$", "", comment[2:-2]).strip()
         if words.startswith("----"):
             head, _, more = words[4:].partition("----")
             title, words = ("title", head.strip(), more.strip()), ""
@@ -112,11 +99,11 @@ def parted(words):
 
 
 def faults_of(text):
-    """The names of the faults that the comments give each call, but for MSG_CLOSED; by `those of`
-    a call it has that one's, too."""
+    """The faults that the comments give each call; by `those of` another call that one's, too."""
     found = {}
-    for kind, words, more in groups(text):
-        said = parted(words)[1] if kind == "calls" else ""
-        names = set(re.findall(r"\bMSG_[A-Z_]+\b", said)).union(*(found[it] for it in re.findall(r"\bthose\s+of\s+(\w+)", said)))
-        found.update({it.name: names for it in (more if kind == "calls" else ())})
+    for words, behind in ((words, them) for kind, words, them in groups(text) if kind == "calls"):
+        said = parted(words)[1]
+        names = set(re.findall(r"\bMSG_[A-Z_]+\b", said))
+        names.update(*(found[it] for it in re.findall(r"\bthose\s+of\s+(\w+)", said)))
+        found.update({it.name: names for it in behind})
     return found

@@ -1,6 +1,7 @@
-"""Reads what the crates define: the definitions of specs/*.antt, the types and constants of
-src/*.rt, and which of them each names."""
+"""Reads what the crates define: the definitions of specs/*.antt, the functions, types and constants
+of src/*.rt, and which of them each names."""
 import functools
+import glob
 import os
 import re
 from typing import NamedTuple
@@ -9,22 +10,21 @@ from words import ROOT, text_at
 
 CRATES = os.path.join(ROOT, "crates")
 NAME = r"[A-Za-z_][\w'\-]*"
-TOKEN = re.compile(r"(?<![\w'.\-])((?:" + NAME + r"\.)*" + NAME + r"|◌?[^\w\s(){}\[\],;:.'\"]+◌?)")
-IMPORT = re.compile(r"(?m)^[ ]*(?:ghost )?use ([\w]+(?:\.[\w]+)*)(?:\.\{([^}]*)\}| as (\w+));?[ ]*$")
+TOKEN = re.compile(rf"(?<![\w'.\-])((?:{NAME}\.)*{NAME}|◌?[^\w\s(){{}}\[\],;:.'\"]+◌?)")
+IMPORT = re.compile(r"(?m)^ *(?:ghost )?use (\w+(?:\.\w+)*)(?:\.\{([^}]*)\}| as (\w+));? *$")
 BEGIN = re.compile(r"^(?:abbrev|unfoldable|pub|mutual|infix[lr]?)\b")
-HEAD = re.compile(r"^\s*((?:abbrev |unfoldable |pub |record |data )+)(" + NAME + r"|◌\S+◌)")
-MAKERS = re.compile(r"^\s+(" + NAME + r"(?: " + NAME + r")*) :")
+HEAD = re.compile(rf"^\s*((?:abbrev |unfoldable |pub |record |data )+)({NAME}|◌\S+◌)")
+MAKERS = re.compile(rf"^\s+({NAME}(?: {NAME})*) :")
 MARKS = ("TheVariants", "TheInside", "TheOpen", "TheConstants")
 RUST = re.compile(r"(?m)^(pub(?:\([^)]*\))? )?(struct|enum|trait|const) (\w+)")
-FUNCTION = re.compile(r'(?m)^((?: *(?:///|#\[)[^\n]*\n)*)( *)(pub(?:\([^)]*\))? )?(?:const )?(?:extern "C" )?fn (\w+)')
+FUNCTION = re.compile(r"(?m)^((?: *(?:///|#\[)[^\n]*\n)*)( *)(pub(?:\([^)]*\))? )?"
+                      r'(?:const )?(?:extern "C" )?fn (\w+)')
 RUST_USE = re.compile(r"(?m)^use ((?:crate|msg_\w+)(?:::\w+)*)::(?:(\w+)|\{([^}]*)\});")
 
 
 class Item(NamedTuple):
-    """One definition, with its comment. `names` are those by which others cite it; `part` is specs
-    or src."""
+    """One definition, with its comment. `names` are those by which others cite it."""
 
-    crate: str
     file: str
     line: int
     names: tuple
@@ -32,13 +32,16 @@ class Item(NamedTuple):
     text: str
 
     @property
+    def crate(self):
+        return self.file.split("/")[1]
+
+    @property
     def is_rust(self):
         return self.file.endswith(".rt")
 
 
 class Function(NamedTuple):
-    """A function of src/. Its `contract` begins with its signature; a function of a trait may have no
-    body."""
+    """A function of src/. Its `contract` begins with its signature. It may have no body."""
 
     file: str
     line: int
@@ -47,6 +50,11 @@ class Function(NamedTuple):
     comment: str
     contract: str
     body: str
+
+    @property
+    def is_export(self):
+        """Whether it is a call for C."""
+        return self.contract.startswith('pub extern "C"')
 
 
 text_of = functools.lru_cache(None)(text_at)
@@ -62,10 +70,8 @@ def crates():
 
 @functools.lru_cache(None)
 def files(crate, part, ending):
-    found = []
-    for where, _, names in sorted(os.walk(os.path.join(CRATES, crate, part))):
-        found += [os.path.relpath(os.path.join(where, name), ROOT) for name in sorted(names) if name.endswith(ending)]
-    return tuple(found)
+    found = glob.glob(f"crates/{crate}/{part}/**/*{ending}", root_dir=ROOT, recursive=True)
+    return tuple(sorted(found, key=os.path.split))
 
 
 @functools.lru_cache(None)
@@ -75,17 +81,33 @@ def functions(path):
     found, ours = list(FUNCTION.finditer(text)), []
     for one, end in zip(found, [*(it.start() for it in found[1:]), len(text)]):
         above, margin, public, name = one.groups()
-        whole = text[one.start(2):end]
+        whole, body = text[one.start(2):end], ""
         begin = re.search(rf"(?m)^{margin}\{{|(?<=\)) (?:-> \S+ )?\{{$", whole)
-        contract, body = (whole[:begin.start()], whole[begin.end():].split(f"\n{margin}}}")[0]) if begin else (whole, "")
+        if begin:
+            body = whole[begin.end():].split(f"\n{margin}}}")[0]
+            whole = whole[:begin.start()]
         comment = "\n".join(it for it in above.split("\n") if it.lstrip().startswith("///"))
-        ours.append(Function(path, text.count("\n", 0, one.start()) + 1, name, public == "pub ", comment, contract, body))
+        line = text.count("\n", 0, one.start()) + 1
+        ours.append(Function(path, line, name, public == "pub ", comment, whole, body))
     return tuple(ours)
 
 
+def functions_of(crate):
+    return [it for path in files(crate, "src", ".rt") for it in functions(path)]
+
+
+def exports():
+    """The calls for C, by name."""
+    return {it.name: it for it in functions_of("msg_c") if it.is_export}
+
+
+def edits(crate):
+    """The must-fail edits of a crate, by name."""
+    return {os.path.basename(path)[:-5]: path for path in files(crate, "must-fail", ".edit")}
+
+
 def names_in(block):
-    """The names that a block of a specification defines: its own, those of a mutual block, and the
-    constructors of data; fields of records are none."""
+    """The names that a block of a specification defines. Fields of records are none."""
     lines, found, in_data = block.split("\n"), [], False
     is_mutual = lines[0].endswith("mutual")
     for line in lines[1:] if is_mutual else lines:
@@ -103,7 +125,8 @@ def blocks(lines):
     comment, begun, held = [], None, []
     for at, line in enumerate(lines + ["-- end"], 1):
         flat = line.startswith("--")
-        if held and (flat or BEGIN.match(line)) and not (len(held) == 1 and held[0].startswith("infix")):
+        is_infix = len(held) == 1 and held[0].startswith("infix")
+        if held and (flat or BEGIN.match(line)) and not is_infix:
             yield begun, comment, "\n".join(held).rstrip()
             comment, held = [], []
         if held:
@@ -119,77 +142,72 @@ def blocks(lines):
 @functools.lru_cache(None)
 def definitions(path):
     """The definitions of one file of specs/, in its order."""
-    crate, lines = path.split("/")[1], IMPORT.sub(lambda it: "\n" * it[0].count("\n"), text_of(path)).split("\n")
-    return tuple(Item(crate, path, at, names_in(text), "\n".join(comment), text) for at, comment, text in blocks(lines) if names_in(text))
+    lines = IMPORT.sub(lambda it: "\n" * it[0].count("\n"), text_of(path)).split("\n")
+    found = ((it[0], names_in(it[2]), "\n".join(it[1]), it[2]) for it in blocks(lines))
+    return tuple(Item(path, *it) for it in found if it[1])
 
 
 def model_of(text, name):
     """What contracts see of a type: the ghost lines of its `impl Model`, where it has them."""
     found = re.search(rf"(?ms)^(impl(?:<[^>]*>)? Model for {name}\b[^\n]*\n)(.*?)^\}}", text)
-    kept = re.findall(r"(?ms)^    ghost (?:Value|view|invariant\w*) =.*?;\n", found[2]) if found else []
+    ghost = r"(?ms)^    ghost (?:Value|view|also_owns|invariant\w*) =.*?;\n"
+    kept = re.findall(ghost, found[2]) if found else []
     return f"\n\n{found[1]}{''.join(kept)}}}" if kept else ""
 
 
+def without_attributes(text):
+    return "\n".join(it for it in text.split("\n") if not it.strip().startswith("#["))
+
+
 @functools.lru_cache(None)
-def rust_item(path, name):
-    """The type, trait or constant of a name in a file of src/, without attributes, or None."""
-    text = text_of(path)
-    found = next((it for it in RUST.finditer(text) if it[3] == name), None)
-    if not found:
-        return None
-    end = re.compile(r";\n|^\}\n", re.M).search(text, found.start()).end() if found[2] == "const" or ";" in text[found.start():].split("\n")[0] else text.index("\n}\n", found.start()) + 3
-    before, comment = text[: found.start()].rstrip("\n").split("\n"), []
-    while before and before[-1].startswith(("//", "#[")):
-        line = before.pop()
-        comment = comment if line.startswith("#[") else [line] + comment
-    body = "\n".join(it for it in text[found.start(): end].rstrip().split("\n") if not it.strip().startswith("#["))
-    at = text.count("\n", 0, found.start()) + 1
-    return Item(path.split("/")[1], path, at, (name,), "\n".join(comment), body + model_of(text, name))
+def rust_items(path):
+    """The types, traits and constants of a file of src/, by their names, without attributes."""
+    text, items = text_of(path), {}
+    for found in RUST.finditer(text):
+        before, whole, name = text[:found.start()], text[found.start():], found[3]
+        is_short = found[2] == "const" or ";" in whole.split("\n")[0]
+        end = re.search(r"(?m);\n|^\}\n" if is_short else r"(?m)^\}\n", whole).end()
+        above = re.search(r"(?m)(?:^(?://|#\[).*\n)*\n*\Z", before)[0].strip("\n")
+        body = without_attributes(whole[:end].rstrip()) + model_of(text, name)
+        item = Item(path, before.count("\n") + 1, (name,), without_attributes(above), body)
+        items.setdefault(name, item)
+    return items
 
 
 @functools.lru_cache(None)
 def rust_type(crate, name):
-    found = (rust_item(path, name) for path in files(crate, "src", ".rt") if re.search(rf"\b(?:struct|enum|trait|const) {name}\b", text_of(path)))
-    return next((it for it in found if it), None)
+    there = map(rust_items, files(crate, "src", ".rt"))
+    return next((items[name] for items in there if name in items), None)
 
 
 def rust_path(crate, parts):
     """The file of a module of src/."""
-    for path in ("/".join(parts) + ".rt", "/".join(parts + ["mod"]) + ".rt", "lib.rt"):
-        if os.path.exists(os.path.join(CRATES, crate, "src", path)):
-            return f"crates/{crate}/src/{path}"
-    return None
+    names = ("/".join(parts), "/".join(parts + ["mod"]), "lib", "main")
+    paths = [f"crates/{crate}/src/{it}.rt" for it in names]
+    return next(it for it in paths if os.path.exists(f"{ROOT}/{it}"))
 
 
 @functools.lru_cache(None)
 def resolve(package, module, name):
-    """What a name of a module of the contracts' language stands for: an item of ours, or None where
-    it is the kit's or generated."""
-    if not os.path.isdir(os.path.join(CRATES, package)):
-        return None
+    """The item of ours that a name of a module stands for; None if it is the kit's."""
     parts = module.split(".")
-    if parts[0] == "declared":
-        marks = [it for it in parts if it in MARKS]
-        plain = [it for it in parts[1:] if it not in MARKS]
-        if marks == ["TheConstants"]:
-            path = rust_path(package, plain)
-            return rust_item(path, name) if path else None
-        path = rust_path(package, plain[:-1])
-        return (rust_item(path, plain[-1]) if path else None) or rust_type(package, plain[-1])
     path = f"crates/{package}/specs/{'/'.join(parts)}.antt"
-    if not os.path.exists(os.path.join(ROOT, path)):
-        return None
-    return next((it for it in definitions(path) if name in it.names), None)
+    if parts[0] == "declared" and os.path.isdir(f"{CRATES}/{package}"):
+        marks = [it for it in parts if it in MARKS]
+        *plain, last = [it for it in parts[1:] if it not in MARKS]
+        if marks == ["TheConstants"]:
+            return rust_items(rust_path(package, [*plain, last])).get(name)
+        return rust_items(rust_path(package, plain)).get(last) or rust_type(package, last)
+    there = definitions(path) if os.path.exists(f"{ROOT}/{path}") else ()
+    return next((it for it in there if name in it.names), None)
 
 
 @functools.lru_cache(None)
 def scope(path):
-    """What a file's names stand for: (package, module, name) of each that it imports, and (package,
-    module) of each alias."""
+    """(package, module, name) of each name that a file imports, and the same of each alias."""
     known, aliases = {}, {}
     for where, names, alias in IMPORT.findall(text_of(path)):
-        parts = where.split(".")
-        package, rest = (parts[1], parts[2:]) if parts[0] == "Rattle" else (parts[0], parts[1:])
+        package, *rest = where.removeprefix("Rattle.").split(".")
         module = ".".join(rest[1:] if rest[:1] == ["specs"] else rest)
         if alias:
             aliases[alias] = (package, module)
@@ -217,8 +235,9 @@ def named_in(item):
     types = rust_scope(item.file) if item.is_rust else {}
     ours, kit = [], []
     for token in dict.fromkeys(TOKEN.findall(plain)):
-        head, _, rest = token.partition(".") if token[0].isalpha() or token[0] == "_" else (f"◌{token}◌", "", "")
-        place = aliases[head] + (rest.split(".")[0],) if head in aliases and rest else known.get(head)
+        is_word = token[0].isalpha() or token[0] == "_"
+        head, *rest = token.split(".") if is_word else [f"◌{token}◌"]
+        place = (*aliases[head], rest[0]) if head in aliases and rest else known.get(head)
         found = resolve(*place) if place else None
         if not found and item.is_rust:
             crate, name = types.get(head, (item.crate, head))

@@ -312,7 +312,7 @@ Method *class_copyMethodList(Class class_, unsigned int *count)
 {
     LOCKED;
     struct record *record = class_ ? class_->record : NULL;
-    struct row *newest = record && record->number ? record->rows : NULL;
+    struct row *newest = record ? record->rows : NULL;
     unsigned int many = 0;
     for (struct row *row = newest; row; row = row->before) many++;
     Method *list = shim_list(many, sizeof *list, count), *next = list;

@@ -92,7 +92,6 @@ static bool try_class(void *row)
 static void adopt(Class class_, struct protocol_list *list)
 {
     struct protocol_list **end = &list;
-    if (!list) return;
     shim_take_protocols(list);
     while (*end) end = &(*end)->next;
     *end = class_->protocols;
@@ -206,6 +205,5 @@ void __objc_exec_class(struct module *module)
         shim_stop("a module of another version", module->name);
     keep_loaded(module);
     take_module(module);
-    msg_process_spare();
     send_loads();
 }

@@ -39,7 +39,7 @@ static void initialize(Class class_)
     shim_take_initialize();
     char taken AT_END(give_initialize);
     Class above = class_->superclass.class_;
-    if (above && atomic_load(&above->record->initialized) == NOT_YET) initialize(above);
+    if (above) initialize(above);
     if (atomic_load(&class_->record->initialized) != NOT_YET) return;
     atomic_store(&class_->record->initialized, RUNNING);
     Class ending AT_END(end_initialize) = class_;
@@ -47,10 +47,7 @@ static void initialize(Class class_)
     if (imp) imp((id)class_, sel);
 }
 
-static Class plain_class(Class class_)
-{
-    return class_->record->meta ? shim_classes[class_->record->number] : class_;
-}
+static Class plain_class(Class class_) { return shim_classes[class_->record->number]; }
 
 static void ensure_initialized(Class class_)
 {

@@ -11,7 +11,7 @@
  *  2. A note is gone by where its count isn't below the stamp of its class, as the library's own
  *     recall does: by one sequentially consistent load, in the words that msg_words tells of. They
  *     stay, since the runtime is never closed; and they are stored before `started`, so who has a
- *     sender, and so notes, has them.
+ *     sender, and so notes, has them. A release and an acquire: who has none may load a word, too.
  *  3. A sender is in one call at a time. Its thread hides it from `msg_process_own` before, so a
  *     handler in the middle of a call finds nobody's there, recalls nothing that is half written,
  *     and asks under the lock. Where it may not be shown, that is one exchange: a handler in a
@@ -28,10 +28,10 @@
  *     The fork gives the lock while it waits, since a handler in such a call may want it.
  *  6. A fork that has the lock waits for the C library's memory, which a handler's thread may have.
  *     So from `still` on a find for a while doesn't wait for the fork. No change is half made then.
- *  7. Seats are opened where memory may be taken. A thread's first find takes one that is spare: it
- *     asks for no memory, since it may be a handler's. (glibc does, if 32 thread keys came before
- *     ours.) Where there is none it asks under the lock; only after PATIENCE of these it opens one
- *     itself. A thread has one try at that, and none waits for a number.
+ *  7. A thread's first find takes a seat that is spare, or maps and opens one. It wants nothing of
+ *     malloc's, since it may be a handler's: what the library takes for a sender lies in the seat
+ *     (memory.c). (glibc takes some, if 32 thread keys came before ours.) A thread has one try, and
+ *     none waits for a number.
  *  8. `started` is stored by a release, and loaded by an acquire before all else: who goes on has
  *     the key of threads.
  *  9. A thread joins `stays` under the lock, before its first find returns. Its entry has the count
@@ -44,6 +44,7 @@
  *     a round also where a thread's first find is in one of the first round. Of a find after the
  *     last call nobody is told the end: then no old code is told as left by all. */
 #define _GNU_SOURCE 1 /* for the kind of lock, and for MAP_ANONYMOUS */
+#include "memory.h"
 #include "msg_process.h"
 #include <limits.h>
 #include <sched.h>
@@ -54,7 +55,10 @@
 #include <unistd.h>
 
 #define PARTS_OF(key) MSG_SLOT_OF(key) / 2, MSG_SLOT_OF(key) % 2, MSG_SEL_OF(key)
-enum { SPARES = 2, PATIENCE = 64, MOST_ENDS = PTHREAD_DESTRUCTOR_ITERATIONS - 1 };
+#ifndef MSG_SPARES
+#define MSG_SPARES 0
+#endif
+enum { SPARES = MSG_SPARES, MOST_ENDS = PTHREAD_DESTRUCTOR_ITERATIONS - 1 };
 enum { SLICE = 1000000, SLICES = 1000 }; /* of a wait for a while: nanoseconds, and how many */
 
 /* In one list or none: `at` is where it is named there. What is written of each comes first, with
@@ -62,6 +66,7 @@ enum { SLICE = 1000000, SLICES = 1000 }; /* of a wait for a while: nanoseconds, 
 struct seat {
     _Alignas(64) struct seat *next, **at;
     atomic_bool asks;
+    _Alignas(64) char room[MSG_ROOM_SIZE]; /* the library's, for the sender */
     _Alignas(64) msg_sender sender;
 };
 #define SEAT_OF(of) ((struct seat *)(void *)((char *)(of)-offsetof(struct seat, sender)))
@@ -85,8 +90,8 @@ static pthread_mutex_t lock = PTHREAD_ADAPTIVE_MUTEX_INITIALIZER_NP;
 static msg_runtime runtime = MSG_RUNTIME_INIT;
 static struct seat *seats, *spares; /* threads', and nobody's, which are open */
 static struct stay *stays;
-static bool is_unsure; /* a find returned in a thread whose end nobody is told of */
-static atomic_uint spare_count, spare_most; /* read without it; none before msg_process_spare */
+static bool is_unsure;          /* a find returned in a thread whose end nobody is told of */
+static atomic_uint spare_count; /* read without it */
 
 static atomic_bool started;
 static atomic_uint forks; /* that are coming */
@@ -94,7 +99,6 @@ static atomic_bool still; /* a fork has the lock, and no change is half made */
 static pthread_key_t key;
 static __thread struct seat *own;
 static __thread volatile bool holds, tried, kept; /* `kept`: the lock was held before the fork */
-static __thread volatile unsigned stood;          /* finds without a seat, while none was spare */
 static __thread struct stay stay;
 static __thread volatile bool stays_on, is_away, is_over; /* among `stays`; as said; rule 10 */
 static __thread unsigned end_count;                       /* how often its end was told */
@@ -132,6 +136,14 @@ static inline uint32_t take(unsigned waits)
         return MSG_LOCK_HELD;
     }
     return MSG_DONE;
+}
+
+/* A find waits once: not again after a wait in vain. */
+static inline uint32_t take_once(unsigned *waits)
+{
+    uint32_t fault = take(*waits);
+    if (fault) *waits = MSG_WAITS_NOT;
+    return fault;
 }
 
 static void give(void)
@@ -181,9 +193,22 @@ static struct seat *new_seat(void)
 
 static void free_seat(struct seat *seat) { munmap(seat, sizeof *seat); }
 
+/* Whether the seat's sender is opened, in the seat's own memory. */
+static bool opens(struct seat *seat)
+{
+    struct msg_room before = msgroom;
+    msgroom = (struct msg_room){.at = seat->room};
+    bool is_open = !msg_sender_open(&runtime, &seat->sender);
+    msgroom = before;
+    return is_open;
+}
+
 static struct seat *closed(struct seat *seat)
 {
+    struct msg_room before = msgroom;
+    msgroom = (struct msg_room){.at = seat->room};
     msg_sender_close(&runtime, &seat->sender);
+    msgroom = before;
     return seat;
 }
 
@@ -197,7 +222,6 @@ static void close_others(void)
         if (seat == own) push(&seats, seat);
         else if (!kept || !seat->asks) free_seat(closed(seat));
     }
-    while (spares && spare_count > spare_most) free_seat(closed(pop_spare()));
     stays = stays_on ? &stay : NULL;
     stay.next = NULL;
     stay.at = &stays;
@@ -212,7 +236,7 @@ static struct seat *stand_up(void)
     if (!seat) return NULL;
     pull(seat);
     own = NULL;
-    if (spare_count >= spare_most) return closed(seat);
+    if ((int)spare_count >= SPARES) return closed(seat);
     push_spare(seat);
     return NULL;
 }
@@ -290,44 +314,25 @@ static void at_thread_end(void *unused)
     if (seat) free_seat(seat);
 }
 
-/* One spare seat more; it takes memory. */
-static bool stock(void)
-{
-    struct seat *seat = new_seat();
-    if (!seat) return false;
-    take(MSG_WAITS);
-    bool opens = !msg_sender_open(&runtime, &seat->sender);
-    if (opens) push_spare(seat);
-    give();
-    if (!opens) free_seat(seat);
-    return opens;
-}
-
-void msg_process_spare(void)
-{
-    unsigned there = atomic_load_explicit(&spare_count, memory_order_relaxed);
-    if (__builtin_expect(there >= SPARES, 1)) return;
-    if (!atomic_load_explicit(&started, memory_order_acquire) || holds) return;
-    atomic_store(&spare_most, SPARES);
-    stock();
-}
-
 /* The thread's seat at its first find; or NULL. */
-static struct seat *sit_down(unsigned waits)
+static struct seat *sit_down(unsigned *waits)
 {
     if (tried || holds) return NULL;
-    bool is_short = !atomic_load(&spare_count);
-    if (is_short && waits != MSG_WAITS && ++stood < PATIENCE) return NULL;
     if (__atomic_exchange_n(&tried, true, __ATOMIC_SEQ_CST)) return NULL;
-    if (is_short && !stock()) return NULL;
-    if (take(waits)) {
+    bool is_new = !atomic_load(&spare_count);
+    struct seat *seat = is_new ? new_seat() : NULL, *left = NULL;
+    if (is_new && !seat) return NULL;
+    if (take_once(waits)) {
+        if (seat) free_seat(seat);
         tried = false;
         return NULL;
     }
-    own = pop_spare();
+    if (!is_new) seat = pop_spare();
+    else if (!opens(seat)) left = seat, seat = NULL;
+    tried = is_new || seat; /* or another thread was quicker */
+    own = seat;
     if (own) push(&seats, own);
-    tried = own != NULL; /* or another thread was quicker */
-    struct seat *left = own && pthread_setspecific(key, &stay) ? stand_up() : NULL;
+    if (own && pthread_setspecific(key, &stay)) left = stand_up();
     if (own) begin_stay();
     give();
     if (left) free_seat(left);
@@ -335,9 +340,9 @@ static struct seat *sit_down(unsigned waits)
 }
 
 /* The thread's seat at its first find after it was away; or NULL. */
-static struct seat *come_back(unsigned waits)
+static struct seat *come_back(unsigned *waits)
 {
-    if (take(waits)) return NULL;
+    if (take_once(waits)) return NULL;
     bool is_first = is_away; /* or a handler came back, and has shown the sender */
     is_away = false;
     if (is_first) msg_meet(&runtime, &own->sender);
@@ -372,10 +377,10 @@ static inline uint32_t probe(struct seat *seat, const struct asked *a)
 }
 
 /* The thread's seat, which is hidden until it is shown again; or NULL. */
-static struct seat *seat_by(unsigned waits)
+static struct seat *seat_by(unsigned *waits)
 {
     struct seat *seat = hide();
-    if (seat || !waits) return seat;
+    if (seat || !*waits) return seat;
     return own && is_away ? come_back(waits) : sit_down(waits);
 }
 
@@ -422,7 +427,7 @@ static inline uint32_t find_by(struct seat *seat, const struct asked *a, unsigne
 {
     uint32_t answer = MSG_MISSED;
     if (!atomic_load_explicit(&started, memory_order_acquire)) return MSG_CLOSED;
-    if (!seat && (seat = seat_by(waits))) answer = probe(seat, a);
+    if (!seat && (seat = seat_by(&waits))) answer = probe(seat, a);
     if (answer == MSG_MISSED && !(answer = take(waits))) {
         answer = a->place ? fill_all(seat, a) : fill(seat, a->key, a->imps);
         give();
@@ -524,7 +529,7 @@ static uint32_t rest(bool goes)
 
 uint32_t msg_process_rest(void)
 {
-    const uint64_t *words = __atomic_load_n(&msg_process_words.at, __ATOMIC_RELAXED);
+    const uint64_t *words = __atomic_load_n(&msg_process_words.at, __ATOMIC_ACQUIRE);
     bool is_seen = !stays_on || stay.changes == __atomic_load_n(words, __ATOMIC_SEQ_CST);
     return is_seen && !holds ? (uint32_t)MSG_DONE : rest(false);
 }
@@ -599,7 +604,7 @@ uint32_t msg_process_start(const msg_config *config)
     if (!fault) {
         const uint64_t *words;
         msg_words(&runtime, &words); /* which is open */
-        __atomic_store_n(&msg_process_words.at, words, __ATOMIC_RELAXED);
+        __atomic_store_n(&msg_process_words.at, words, __ATOMIC_RELEASE);
         atomic_store_explicit(&started, true, memory_order_release);
     }
     give();

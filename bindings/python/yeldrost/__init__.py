@@ -132,8 +132,8 @@ def class_itself(number: int) -> ClassRef:
 
 
 class Change(NamedTuple):
-    """One entry in a list for `Runtime.change_all`. `Change.add` and those that follow make one that
-    does what the runtime's method of its name does. `kind` is the header's number: 1 adds, 2
+    """One entry in a list for `Runtime.change_all`. `Change.add` and those that follow make one
+    that does what the runtime's method of its name does. `kind` is the header's number: 1 adds, 2
     replaces, 3 sets an implementation, 4 exchanges, 5 makes a class, 6 a root class, 7 removes, 8
     disposes of a class, 9 covers."""
 
@@ -206,10 +206,10 @@ class _Shared:
 
 class Runtime:
     """A runtime without classes, which any thread may use. `with` closes it at its end. 0 is the
-    default of `classes` and `senders`. `arrays`: how many arrays of 4, 8, .., 1,024 entries the
-    shared caches have, at most 65,535 of each. If all are 0 they are 4,096 2,048 512 256 128 64 32
-    16 8; otherwise 0 is none. Calls hold the GIL. With `holds_gil=False` each gives it back and
-    takes it again, so that other threads run meanwhile: for long lists of changes."""
+    default of `classes` and `senders`. `arrays`: nine numbers, how many arrays of 4, 8, .., 1,024
+    entries the shared caches have, at most 65,535 of each. If all are 0 they are 4,096 2,048 512
+    256 128 64 32 16 8; otherwise 0 is none. Calls hold the GIL. With `holds_gil=False` each gives
+    it back and takes it again, so that other threads run meanwhile: for long lists of changes."""
 
     def __init__(
         self,
@@ -226,7 +226,8 @@ class Runtime:
     def __repr__(self) -> str:
         if not self._shared.handle.open:
             return "<yeldrost.Runtime, closed>"
-        return f"<yeldrost.Runtime of {len(self.classes())} classes, after {self.change_count} changes>"
+        count = len(self.classes())
+        return f"<yeldrost.Runtime of {count} classes, after {self.change_count} changes>"
 
     def __enter__(self) -> Runtime:
         return self
@@ -236,7 +237,8 @@ class Runtime:
             self.close()
 
     def close(self) -> None:
-        """Closes it. Its senders find what they have noted or cached, and else raise ClosedError."""
+        """Closes it. Its senders find what they have noted or cached, and else raise
+        ClosedError."""
         self._call("msg_close")
 
     @contextlib.contextmanager
@@ -316,8 +318,8 @@ class Runtime:
         return self._told(ctypes.c_uint32, "msg_lookup", *_ref(of), selector).value or None
 
     def superclass(self, of: Class) -> Optional[ClassRef]:
-        """What stands above: of a metaclass the superclass's metaclass, and of a root's metaclass the
-        root itself. None above a root class."""
+        """What stands above: of a metaclass the superclass's metaclass, and of a root's metaclass
+        the root itself. None above a root class."""
         above = self._told(_header.msg_class, "msg_superclass", *_ref(of))
         return above and ClassRef(above.number, above.meta)
 
@@ -395,10 +397,10 @@ class Runtime:
         self._call("msg_dispose_class", number)
 
     def change_all(self, changes: Iterable[Change]) -> None:
-        """Makes several changes as one: each lookup finds what was before all of them or what
-        is after all. The list is refused for the first that would be refused after those before it. Then
-        nothing has changed. The error has its `place`: None if a number doesn't fit in 32 bits, or
-        if the runtime isn't open."""
+        """Makes several changes as one: each lookup finds what was before all of them or what is
+        after all. The list is refused for the first that would be refused after those before it.
+        Then nothing has changed. The error has its `place`: None if a number doesn't fit in 32
+        bits, or if the runtime isn't open."""
         rows, count = _changes(changes)
         place = ctypes.c_size_t()
         answer = self._answer("msg_change_all", rows, count, ctypes.byref(place))
@@ -477,16 +479,19 @@ def _close_sender(shared: _Shared, raw: _header.msg_sender) -> None:
 
 
 class Sender:
-    """What one thread looks methods up by: that which opened it, or that which `adopt`s it. Leave its
-    `with`, or call `close`. Else it is closed when Python collects it. Until then it counts among
-    `senders`, and holds `seen_by_all` back, even after its thread has ended. It may be closed inside
-    `held()`. It may outlive its runtime. It *notes* what it finds in a cache of its own. What is *cached* lies in the
-    cache that all senders share. A class's *stamp* is a count of changes: no change after so many has
-    affected the class. From a change of the class until its next fill it is 2**64 - 1: then nothing
-    noted counts."""
+    """What one thread looks methods up by: that which opened it, or that which `adopt`s it. Leave
+    its `with`, or call `close`. Else it is closed when Python collects it. Until then it counts
+    among `senders`, and holds `seen_by_all` back, even after its thread has ended. It may be closed
+    inside `held()`. It may outlive its runtime. It *notes* what it finds in a cache of its own.
+    What is *cached* lies in the cache that all senders share. A class's *stamp* is a count of
+    changes: no change after so many has affected the class. From a change of the class until its
+    next fill it is 2**64 - 1: then nothing noted counts."""
 
     def __init__(self, shared: _Shared) -> None:
-        self._shared, self._raw = shared, _header.msg_sender()
+        try:
+            self._shared, self._raw = shared, _header.msg_sender()
+        except MemoryError:
+            raise NoMemoryError() from None
         self._thread = threading.current_thread()
         self._imp, self._at = ctypes.c_uint32(), ctypes.pointer(self._raw)
         with shared.lock:
@@ -516,8 +521,8 @@ class Sender:
         self._thread = threading.current_thread()
 
     def _own(self) -> None:
-        """Asks for the thread's object, since a later thread may have the ident of one that ended. A
-        thread that is ending, or that `threading` didn't start, may get another object later."""
+        """Asks for the thread's object, since a later thread may have the ident of one that ended.
+        A thread that is ending, or that `threading` didn't start, may get another object later."""
         it = self._thread
         if it is threading.current_thread():
             return
@@ -541,8 +546,8 @@ class Sender:
         )
 
     def find_all(self, lookups: Iterable[Tuple[Class, int]]) -> List[Optional[int]]:
-        """Several as one, each a pair of a class reference and a selector: all at one version, which
-        the sender has then seen. The fault of one that isn't asked has its `place`."""
+        """Several as one, each a pair of a class reference and a selector: all at one version,
+        which the sender has then seen. The fault of one that isn't asked has its `place`."""
         self._own()
         rows, count = _lookups(lookups)
         shared, imps, place = self._shared, (ctypes.c_uint32 * max(1, count))(), ctypes.c_size_t()

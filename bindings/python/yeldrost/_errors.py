@@ -9,7 +9,8 @@ _TEXTS = {number: text for number, text in _header.FAULTS.values()}
 
 
 class Error(Exception):
-    """A call was refused, and nothing has changed by it. Each reason is a class of its own below this one."""
+    """A call was refused, and nothing has changed by it. Each reason is a class of its own below
+    this one."""
 
     #: The header's number of the reason, or 0 if it has none there.
     number: int = 0
@@ -105,7 +106,7 @@ class BadConfigError(Error):
 
 
 class BadChangeError(Error):
-    """A change of a list is of no kind."""
+    """A change of a list is of no kind, or a change or a lookup of a list has a meta above 1."""
 
     number = 75
 

@@ -32,7 +32,10 @@ def load(holds_gil: bool) -> ctypes.CDLL:
     try:
         library = (ctypes.PyDLL if holds_gil else ctypes.CDLL)(_path())
     except OSError as error:
-        how = "install it (tools/build/install PREFIX), and set PKG_CONFIG_PATH=PREFIX/lib/pkgconfig or YELDROST_LIBRARY"
+        how = (
+            "install it (tools/build/install PREFIX), and set "
+            "PKG_CONFIG_PATH=PREFIX/lib/pkgconfig or YELDROST_LIBRARY"
+        )
         raise ImportError(f"the library of Yeldrost isn't found ({error}): {how}") from error
     for name, (result, parameters) in _header.CALLS.items():
         call = getattr(library, name)

@@ -7,6 +7,7 @@ use Rattle.msg_tables.specs.Origin.{last_imp}
 use Rattle.msg_tables.specs.History.{History}
 use Rattle.msg_cache.specs.Plays.{given_again, taken_in}
 use Rattle.msg_cache.specs.Views.{ArenaView, classes}
+use Rattle.msg_reader.specs.Cost.{ProbesAtMost, ProbesOnceAtMost}
 use Rattle.msg_reader.specs.Kept.{FindsUnprobed, HaveNotedSince, LoadsStamp}
 use Rattle.msg_reader.specs.Notes.{HaveNoted, IsRecalledSince}
 use Rattle.msg_host.specs.Asking.{AnswersChange, IsLeft}
@@ -194,6 +195,14 @@ HasNotedSince s c sel imp = IfSender s (λ w. HaveNotedSince s.notes c sel w.see
 -- a stamp was loaded, and what its notes had since then was found, without a probe
 abbrev pub FindsNotedIn : SenderHandle → SenderHandle → ClassRef → ℕ → Option ℕ → Type 0
 FindsNotedIn was is c sel found = IfSenders was is (λ u w. FindsUnprobed was.notes c sel u.seen w.seen found)
+
+-- one cache at most was probed, for a lookup, and no more words of it were read than one array has
+abbrev pub ProbesOnceIn : SenderHandle → SenderHandle → ClassRef → ℕ → Type 0
+ProbesOnceIn was is c sel = IfSenders was is (λ u w. ProbesOnceAtMost u.arena c sel u.seen w.seen)
+
+-- for several lookups no more caches were probed than there are rows
+abbrev pub ProbesRowsIn : SenderHandle → SenderHandle → List LookupRow → Type 0
+ProbesRowsIn was is rows = IfSenders was is (λ u w. ProbesAtMost (length rows) u.seen w.seen)
 
 -- the stamp of a class reference was loaded, which was n, and nothing else was done
 abbrev pub LoadsStampIn : SenderHandle → SenderHandle → ClassRef → ℕ → Type 0

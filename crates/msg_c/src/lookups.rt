@@ -4,7 +4,8 @@ ghost use Rattle.std.specs.Prelude.{◌≡◌, ◌≢◌, ◌⊎◌, None, lengt
 ghost use Rattle.msg_host.specs.Lookups.{AreRowsFoundAt};
 ghost use Rattle.msg_c.specs.Answers.{AreOfOneArena, sender_arena};
 ghost use Rattle.msg_c.specs.Handles.{FindsRowsIn, HasRuntime, HasSeenAll, IfAt, KeepsOtherNotes, LacksRowIn, LeavesRests};
-ghost use Rattle.msg_c.specs.Handles.{LooksOnceMore, MissesRowIn, NotesRowsAt, NotesRowsIn, RefusesLookupsIn, SeesMore};
+ghost use Rattle.msg_c.specs.Handles.{LooksOnceMore, MissesRowIn, NotesRowsAt, NotesRowsIn, ProbesRowsIn};
+ghost use Rattle.msg_c.specs.Handles.{RefusesLookupsIn, SeesMore};
 ghost use Rattle.msg_c.specs.Handles.{StaysAt, TakesLookupsIn};
 
 use crate::answer::{CLOSED, DONE, MISSED};
@@ -43,6 +44,7 @@ pub extern "C" fn msg_probe_all(
         → RefusesLookupsIn sender.old lookups.now (length imps.old) place.old place.new result }
     ensures recalled { result ≡ MISSED → LacksRowIn sender.old sender.new lookups.now }
     ensures missed { result ≡ MISSED → MissesRowIn sender.old sender.new lookups.now }
+    ensures probed { ProbesRowsIn sender.old sender.new lookups.now }
 {
     if !sender.is_open() {
         return CLOSED;

@@ -12,7 +12,7 @@ ghost use Rattle.msg_host.specs.Named.{ref_of};
 ghost use Rattle.msg_c.specs.Handles.{AnswersAsked, CachesIn, FindsNotedIn, GivesOut, HasAllOut, HasNotedAt, HasNotedSince};
 ghost use Rattle.msg_c.specs.Handles.{HasRuntime, HasSeenAll, HasSender, IfAt, IfOfArena, IfSeen};
 ghost use Rattle.msg_c.specs.Handles.{IsListedIn, IsOfRuntime, LeavesNumbers, LeavesRests, LeavesRestsOut};
-ghost use Rattle.msg_c.specs.Handles.{LoadsStampIn, LooksOnceMore, Meets, Recalls, RestsAtOpening, SeesMore};
+ghost use Rattle.msg_c.specs.Handles.{LoadsStampIn, LooksOnceMore, Meets, ProbesOnceIn, Recalls, RestsAtOpening, SeesMore};
 ghost use Rattle.msg_c.specs.Handles.{StaysAt, TakesBack, TellsFaultIn};
 
 use crate::answer::{
@@ -25,8 +25,8 @@ use msg_reader::laws::notes_are_of_longer_histories;
 use std::alloc::Global;
 use std::mem;
 
-// The layout as in the header: a pointer, whether it is open, where notes were written, 16 bytes, and
-// two notes of 32 bytes at each of 8,192 places.
+// The layout as in the header: a pointer, whether it is open, where notes were written, 16 bytes,
+// and two notes of 32 bytes at each of 8,192 places.
 const SENDER_BYTES: usize = 524_384;
 
 const _: () = prove!(mem::size_of::<SenderHandle>() == SENDER_BYTES);
@@ -142,6 +142,7 @@ pub extern "C" fn msg_probe(
     ensures unprobed { result ≡ 0 → FindsNotedIn sender.old sender.new (ref_of class meta) sel (Some imp.new) }
     ensures miss { IfOfArena sender.old (λ a. result ≡ MISSED → IsAsked a class sel) }
     ensures recalled { result ≡ MISSED → FindsNotedIn sender.old sender.new (ref_of class meta) sel None }
+    ensures probed { ProbesOnceIn sender.old sender.new (ref_of class meta) sel }
 {
     if !sender.is_open() {
         return CLOSED;

@@ -1,5 +1,5 @@
 -- Rows that mean lookups.
-use Rattle.std.proofs.Common.{◌≡◌, ◌<◌, ℕ, zero, suc, List, [], ◌∷◌, Bool, true, false, All, map, refl, ap₂, ◌∙◌, arith}
+use Rattle.std.proofs.Common.{◌≡◌, ◌<◌, ℕ, zero, suc, List, [], ◌∷◌, Bool, true, false, All, length, map, refl, ap, ap₂, ◌∙◌, arith}
 use Rattle.std.specs.Prelude.{◌==◌, nat_lt, if◌then◌else◌, Option, Some, None, IfSome, IfNone, is_some, Result, Ok, Err}
 use Rattle.std.specs.Result.{is_ok}
 use Rattle.std.proofs.lemmas.Bool.{and_parts}
@@ -72,3 +72,8 @@ if_found v w ks imps (Some n) b e are = found_together v w ks imps n b are
 pub if_lacking : (P : Type 0) (r : Option ℕ) → is_some r ≡ false → IfNone r P → P
 if_lacking P None e so = so
 if_lacking P (Some n) e so = absurd (cc)
+
+-- each row means one lookup, or another
+pub as_many : (n : ℕ) (rows : List LookupRow) → length (lookups_in n rows) ≡ length rows
+as_many n [] = refl
+as_many n (row ∷ rows) = ap suc (as_many n rows)

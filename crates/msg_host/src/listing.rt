@@ -1,6 +1,7 @@
 //! Lists of changes in numbers.
 
 ghost use Rattle.std.specs.Prelude.{◌≡◌, ◌≢◌, ◌<◌, ◌≤◌, ◌⊎◌, true, IfOk, IfErr, OnErr, OnOk, length};
+ghost use Rattle.std.specs.Result.{is_ok};
 ghost use Rattle.msg_tables.specs.FaultNumber.{change_fault_number};
 ghost use Rattle.msg_tables.specs.declared.fault.ChangeFault.{ChangeFault};
 ghost use Rattle.msg_host.specs.Asking.{IsLeft, want_of_memory, want_of_room};
@@ -124,6 +125,14 @@ impl ChangeRow {
         Ok(ChangeRef::Cover { class, sel, imp })
     }
 
+    // Whether the row adds, replaces or sets a method, as most rows do, and names it.
+    #[inline(always)]
+    fn is_common(self) -> bool
+        ensures { result ≡ true → is_ok (change_in self) ≡ true }
+    {
+        (1..=3).contains(&self.kind) && self.meta <= 1 && self.sel != 0
+    }
+
     // The change that the row means.
     #[inline(always)]
     fn change<'c>(self) -> Result<ChangeRef<'c>, AskFault>
@@ -185,6 +194,7 @@ impl ChangeList for MeantRows<'_> {
 }
 
 // The rows, if each means a change; or the first that means none.
+#[inline(always)]
 pub(crate) fn meant(rows: &[ChangeRow]) -> Result<MeantRows<'_>, RowFault>
     ensures rows { IfOk result (λ list. list.rows.now ≡ rows.now) }
     ensures ok { IfOk result (λ list. AreMeant rows.now (changes_in rows.now)) }
@@ -193,6 +203,9 @@ pub(crate) fn meant(rows: &[ChangeRow]) -> Result<MeantRows<'_>, RowFault>
     ensures place { IfErr result (λ r. r.place < length rows.now) }
 {
     for (place, row) in rows.iter().enumerate() {
+        if row.is_common() {
+            continue;
+        }
         if let Err(fault) = row.change() {
             let number = fault.number();
             return Err(RowFault { place, number });
@@ -212,6 +225,7 @@ pub(crate) enum RowsUnmade {
 impl HostedRuntime {
     // Makes the changes of rows as one, if their way back has at most this number of changes.
     // Otherwise it returns why not, and changes nothing. What the changes wrote is noted.
+    #[inline(always)]
     pub(crate) fn change_rows(&mut self, rows: &[ChangeRow], most: usize) -> Result<(), RowsUnmade>
         ensures arena { self.new.arena ≡ self.old.arena }
         ensures given { self.new.keeper.given ≡ self.old.keeper.given }

@@ -3,6 +3,7 @@
 ghost use Rattle.std.specs.Prelude.{◌≡◌, ◌+◌, true, false, Ok, IfOk, IfErr, OnErr, OnOk, length};
 ghost use Rattle.msg_tables.specs.History.{BeginsWith};
 ghost use Rattle.msg_cache.specs.Views.{classes, layout};
+ghost use Rattle.msg_reader.specs.Cost.{ProbesAtMost};
 ghost use Rattle.msg_reader.specs.Notes.{AreNotesOf, StayStamped};
 ghost use Rattle.msg_runtime.specs.Calls.{KeepsRoom};
 ghost use Rattle.msg_host.specs.Lookups as spec;
@@ -121,6 +122,7 @@ impl HostedSender {
         ensures recalled { result ≡ Ok false
             → RowsLackOne self.old.arena notes.old rows.now self.old.seen self.new.seen }
         ensures missed { result ≡ Ok false → RowsMissOne self.old.arena rows.now self.old.seen self.new.seen }
+        ensures probed { ProbesAtMost (length rows.now) self.old.seen self.new.seen }
         ensures ok { OnOk result
             (AreTakenLookups (classes self.old.arena) rows.now (length imps.old) place.old place.new) }
         ensures err { IfErr result

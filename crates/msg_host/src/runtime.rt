@@ -151,6 +151,7 @@ impl HostedRuntime {
     ///
     /// What the list wrote is noted. Directly afterwards [`written`](HostedRuntime::written) gives
     /// the way back, and there is room for making that.
+    #[inline(always)]
     pub fn change_all<L: ChangeList>(&mut self, changes: &L, most: usize) -> Result<u64, Unmade>
         ensures arena { self.new.arena ≡ self.old.arena }
         ensures ok { OnOk result (AreMade (L.changes changes.now) self.old.keeper.history self.new.keeper.history) }

@@ -7,6 +7,7 @@ ghost use Rattle.msg_tables.specs.History.{BeginsWith};
 ghost use Rattle.msg_model.specs.Stamps.{last_affected};
 ghost use Rattle.msg_cache.specs.Rule.{IsAccepted};
 ghost use Rattle.msg_cache.specs.Views.{IsFoundAt, classes, layout};
+ghost use Rattle.msg_reader.specs.Cost.{ProbesAtMost, ProbesOnceAtMost};
 ghost use Rattle.msg_reader.specs.Kept.{FindsUnprobed, KeepOthers, LoadsStamp, MissesUnlessChanged};
 ghost use Rattle.msg_reader.specs.Notes.{AreNotesOf, StayStamped};
 ghost use Rattle.msg_reader.specs.Several.{AreAsked, AreFoundTogether, AreNoted, KeepOthersOfAll, LackOne, MissOne};
@@ -101,6 +102,8 @@ impl HostedSender {
             self.old.seen self.new.seen (option_map imp_number result) }
         ensures missed { IfNone result
             (MissesUnlessChanged self.new.arena class (selector_number sel) self.old.seen self.new.seen) }
+        ensures probed { ProbesOnceAtMost self.old.arena class (selector_number sel)
+            self.old.seen self.new.seen }
     {
         a_slot_of_few_classes_is_short();
         self.reader.try_find_counted(&self.arena, notes, class, sel)
@@ -128,6 +131,7 @@ impl HostedSender {
         ensures stamped { StayStamped (layout self.old.arena) notes.old notes.new }
         ensures recalled { result ≡ false → LackOne notes.old (L.lookups lookups.now) self.old.seen self.new.seen }
         ensures missed { result ≡ false → MissOne self.old.arena (L.lookups lookups.now) self.old.seen self.new.seen }
+        ensures probed { ProbesAtMost (length (L.lookups lookups.now)) self.old.seen self.new.seen }
     {
         self.reader
             .try_find_all(&self.arena, notes, lookups, imps)

@@ -8,6 +8,7 @@ ghost use Rattle.msg_cache.specs.Rule.{IsAccepted};
 ghost use Rattle.msg_cache.specs.Views.{classes, layout};
 ghost use Rattle.msg_host.specs.Asking.{ask_fault};
 ghost use Rattle.msg_host.specs.declared.fault.AskFault.{AskFault};
+ghost use Rattle.msg_reader.specs.Cost.{ProbesOnceAtMost};
 ghost use Rattle.msg_reader.specs.Notes.{AreNotesOf, HaveNoted, StayStamped};
 ghost use Rattle.msg_reader.specs.Kept.{FindsUnprobed, HaveNotedSince, HaveOthersOf, LoadsStamp, MissesUnlessChanged};
 ghost use Rattle.msg_runtime.specs.Calls.{CachesNumber, KeepsRoom};
@@ -46,6 +47,8 @@ impl HostedSender {
         ensures unprobed { IfOk result (FindsUnprobed notes.old (ref_of class meta) sel self.old.seen self.new.seen) }
         ensures missed { IfOk result (λ found.
             IfNone found (MissesUnlessChanged self.old.arena (ref_of class meta) sel self.old.seen self.new.seen)) }
+        ensures probed { OnOk result
+            (ProbesOnceAtMost self.old.arena (ref_of class meta) sel self.old.seen self.new.seen) }
     {
         let (class, sel) = asked(self.class_count(), class, meta, sel)?;
         match self.try_find(notes, class, sel) {

@@ -1,12 +1,16 @@
 -- What a reader recalls, and what it misses.
-use Rattle.std.proofs.Common.{◌≡◌, ◌≤◌, ℕ, List, [], ◌∷◌, ◌++◌, length, Option, Some, None, refl, ap, subst, ◌∙◌, inl, inr, arith, length-append}
+use Rattle.std.proofs.Common.{◌≡◌, ◌≤◌, ◌+◌, ℕ, List, [], ◌∷◌, ◌++◌, length, Option, Some, None, refl, sym, ap, subst, ◌∙◌, inl, inr, arith, length-append}
 use Rattle.std.specs.Prelude.{IfSome, IfNone}
 use Rattle.msg_names.specs.ClassRef.{slot_of}
+use Rattle.msg_names.specs.Number.{selector_number}
 use Rattle.msg_names.specs.declared.value.ClassRef.{ClassRef}
+use Rattle.msg_names.specs.declared.value.Selector.{Selector}
 use Rattle.msg_tables.specs.History.{History, BeginsWith}
-use Rattle.msg_cache.specs.Views.{ArenaView}
+use Rattle.msg_cache.specs.Views.{ArenaView, ProbesFor, layout}
 use Rattle.msg_cache.specs.declared.view.SenderView.{SenderView}
 use Rattle.msg_cache.specs.Record.{MadeNoProbe}
+use Rattle.msg_cache.specs.declared.view.Record.{Record}
+use Rattle.msg_reader.specs.Cost.{ProbesOnce, ProbesOnceAtMost, ReadsOneArray}
 use Rattle.msg_reader.specs.Kept.{FindsRecalled, FindsUnprobed, HasLoaded, LoadsFirst, LoadsMore, LoadsStamp, MissesAfter}
 use Rattle.msg_reader.specs.Notes.{recalled}
 use Rattle.msg_reader.specs.declared.notes.Notes.{Notes}
@@ -66,3 +70,25 @@ found_unprobed was c sel n i u v w same none loaded noted = (
   ([], stamps_are c n v w loaded ∙ ap (λ (l : List (ClassRef × ℕ)). (c, n) ∷ l) same),
   subst (λ o. IfSome o (λ j. (Some i ≡ Some j) × MadeNoProbe u w)) noted (refl, (ap (λ (x : SenderView). x.count) loaded ∙ none.0, ap (λ (x : SenderView). x.last) loaded ∙ none.1)),
 )
+
+-- a probe is one, also where a stamp is loaded after it
+pub one_probe : (a : ArenaView) (c : ClassRef) (s : Selector) (v w : SenderView) → ProbesFor a c s v w → ProbesOnce a c (selector_number s) v w
+one_probe a c s v w probes = (probes.counted, (probes.class_is, probes.sel_is, probes.no_array, probes.places))
+
+pub still_one : (a : ArenaView) (c k : ClassRef) (sel n : ℕ) (v u w : SenderView) → LoadsStamp k n u w → ProbesOnce a c sel v u → ProbesOnce a c sel v w
+still_one a c k sel n v u w loaded (counted, reads) = (
+  ap (λ (x : SenderView). x.count) loaded ∙ counted,
+  subst (λ (l : Record). ReadsOneArray (layout a) c sel l) (sym (ap (λ (x : SenderView). x.last) loaded)) reads,
+)
+
+-- steps before it that aren't probes change nothing of this
+pub one_after : (a : ArenaView) (c : ClassRef) (sel : ℕ) (v u w : SenderView) → MadeNoProbe v u → ProbesOnceAtMost a c sel u w → ProbesOnceAtMost a c sel v w
+one_after a c sel v u w none (inl same) = inl (same.0 ∙ none.0, same.1 ∙ none.1)
+one_after a c sel v u w none (inr (counted, reads)) = inr (counted ∙ ap (λ (n : ℕ). n + 1) none.0, reads)
+
+-- nor does the load of a stamp
+pub stamp_is_no_probe : (c : ClassRef) (n : ℕ) (v w : SenderView) → LoadsStamp c n v w → MadeNoProbe v w
+stamp_is_no_probe c n v w loaded = (ap (λ (x : SenderView). x.count) loaded, ap (λ (x : SenderView). x.last) loaded)
+
+pub no_probe_yet : (u v w : SenderView) → MadeNoProbe u v → MadeNoProbe v w → MadeNoProbe u w
+no_probe_yet u v w first then = (then.0 ∙ first.0, then.1 ∙ first.1)

@@ -1,4 +1,5 @@
 pub mod Blank
+pub mod Cost
 pub mod Found
 pub mod Key
 pub mod Kept

@@ -17,6 +17,7 @@ ghost use Rattle.msg_cache.specs.Rule.{IsAccepted};
 ghost use Rattle.msg_cache.specs.Views.{HitsAndIsFound, IsFoundAt, IsSenderOf, ProbesFor, classes, layout};
 ghost use Rattle.msg_cache.specs.Plays.{given_again, renewed};
 ghost use Rattle.msg_names.specs.Number.{imp_number, selector_number};
+ghost use Rattle.msg_reader.specs.Cost.{ProbesOnce, ProbesOnceAtMost};
 ghost use Rattle.msg_reader.specs.Found.{IsListed};
 ghost use Rattle.msg_reader.specs.Kept.{FindsRecalled, FindsUnprobed, HasLoaded, IsNotedFound, KeepOthers, LoadsMore, LoadsStamp, MissesAfter, MissesUnlessChanged, RecallsSince};
 ghost use Rattle.msg_reader.specs.Notes.{AreNotesOf, IsKeptAt, StayStamped};
@@ -185,6 +186,8 @@ impl Reader {
             self.old.sender self.new.sender (option_map imp_number result) }
         ensures missed { IfNone result
             (MissesUnlessChanged arena.now class (selector_number sel) self.old.sender self.new.sender) }
+        ensures probed { ProbesOnceAtMost arena.now class (selector_number sel)
+            self.old.sender self.new.sender }
     {
         notes_are_of_longer_histories();
         let since = self.stamp(arena, class);
@@ -220,6 +223,8 @@ impl Reader {
         ensures stamps { LoadsMore self.old.sender self.new.sender }
         ensures missed { IfNone result
             (MissesUnlessChanged arena.now class (selector_number sel) self.old.sender self.new.sender) }
+        ensures probed { ProbesOnceAtMost arena.now class (selector_number sel)
+            self.old.sender self.new.sender }
     {
         notes_are_of_longer_histories();
         let count = self.refresh(arena);
@@ -253,6 +258,8 @@ impl Reader {
             self.old.sender self.new.sender (option_map imp_number result) }
         ensures missed { IfNone result
             (MissesUnlessChanged arena.now class (selector_number sel) self.old.sender self.new.sender) }
+        ensures probed { ProbesOnceAtMost arena.now class (selector_number sel)
+            self.old.sender self.new.sender }
     {
         notes_are_of_longer_histories();
         let count = self.refresh(arena);
@@ -297,6 +304,8 @@ impl Reader {
         ensures looks { self.new.sender.looks ≡ self.old.sender.looks }
         ensures stamps { LoadsMore self.old.sender self.new.sender }
         ensures missed { IfNone result (MissesAfter arena.now class (selector_number sel) count self.new.sender) }
+        ensures probed { ProbesOnce arena.now class (selector_number sel)
+            self.old.sender self.new.sender }
     {
         notes_are_of_longer_histories();
         a_found_implementation_is_listed();

@@ -9,6 +9,7 @@ ghost use Rattle.std.specs.Prelude.{◌≡◌, ◌≤◌, ◌<◌, ◌+◌, ◌�
 ghost use Rattle.msg_tables.specs.History.{BeginsWith};
 ghost use Rattle.msg_cache.specs.Views.{IsSenderOf, classes, layout};
 ghost use Rattle.msg_names.specs.Number.{imp_number, selector_number};
+ghost use Rattle.msg_reader.specs.Cost.{ProbesAtMost};
 ghost use Rattle.msg_reader.specs.Kept.{KeepOthers, LoadsMore, MissesAfter};
 ghost use Rattle.msg_reader.specs.Notes.{AreNotesOf, StayStamped};
 ghost use Rattle.msg_reader.specs.Several.{AreAsked, AreFoundAfter, AreNoted, IsFoundAfter, IsNotedAmong, KeepOthersOfAll, LackOne, LacksIt, MissOne};
@@ -52,6 +53,7 @@ impl Reader {
         ensures room { length imps.new ≡ length imps.old }
         ensures recalled { IfNone result (LackOne notes.old (L.lookups lookups.now) self.old.sender self.new.sender) }
         ensures missed { IfNone result (MissOne arena.now (L.lookups lookups.now) self.old.sender self.new.sender) }
+        ensures probed { ProbesAtMost (length (L.lookups lookups.now)) self.old.sender self.new.sender }
     {
         notes_are_of_longer_histories();
         let count = self.refresh(arena);
@@ -93,6 +95,7 @@ impl Reader {
             ⊎ LacksIt notes.old count lookup self.old.sender self.new.sender }
         ensures missed { IfNone result
             (MissesAfter arena.now lookup.class (selector_number lookup.sel) count self.new.sender) }
+        ensures probed { ProbesAtMost 1 self.old.sender self.new.sender }
     {
         notes_are_of_longer_histories();
         let since = self.stamp(arena, lookup.class);

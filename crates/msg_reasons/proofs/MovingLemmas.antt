@@ -108,18 +108,6 @@ comes_reached version old now h g at same le =
     sym same ∙ point_reached version g (map item_parts now.left.now) (omega (arith, le, at.1)) in
     rw reached (at, refl)
 
--- or no item is left
-pub comes_last : (version : ℕ) (old now : Moving) (h g : History) → IsAt now g → point_of version g (map item_parts now.left.now) ≡ point_of version h (map item_parts old.left.now) → now.left.now ≡ [] → ComesTo version old now h
-comes_last version old now h g at same none =
-    let last : point_of version h (map item_parts old.left.now) ≡ point_at g (map item_parts now.left.now) =
-    sym same ∙ (rw none refl) in
-    rw last (at, refl)
-
--- the changes of the next item lead to the same point
-pub way_next : (version : ℕ) (g : History) (items later : List Item) (item : Item) (p : Point) → length g.changes < version → items ≡ item ∷ later → point_of version g (map item_parts items) ≡ p → point_of version (history_after g (item_parts item)) (map item_parts later) ≡ p
-way_next version g items later item p lt is same =
-    sym (point_step version g (item_parts item) (map item_parts later) lt) ∙ ap (λ (xs : List Item). point_of version g (map item_parts xs)) (sym is) ∙ same
-
 -- where no version is left the next lookup is answered where the last was
 pub stays_on : (m : Moving) (k : Course) → m.versions.now ≡ [] → IsOn m k → IsOn m (moved k)
 stays_on m k none on =

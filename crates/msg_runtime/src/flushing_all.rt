@@ -81,6 +81,24 @@ fn flush_both(keeper: &mut Keeper, arena: &Arena, tables: &Tables, first: Entry,
     flush_entry(keeper, arena, tables, second);
 }
 
+// Flushes the caches that entries affect, those below one place once if it was flushed lately. It
+// is a function of its own, so that a list of one or two makes no table of places.
+#[inline(never)]
+fn flush_each(keeper: &mut Keeper, arena: &Arena, tables: &Tables, entries: &[Entry])
+    requires arena { IsKeeperOf arena.now keeper.old }
+    requires listed { All (NamesListed (length tables.now.supers)) entries.now }
+    requires classes { length tables.now.supers ≡ class_total (keeper_history keeper.old).origin }
+    ensures arena { IsKeeperOf arena.now keeper.new }
+    ensures history { keeper_history keeper.new ≡ keeper_history keeper.old }
+    ensures seats { keeper_seats keeper.new ≡ keeper_seats keeper.old }
+    ensures flushed { AreFlushed arena.now tables.now keeper.new (λ h. is_told h entries.now) }
+{
+    let mut recent = Recent::none();
+    for entry in entries {
+        flush_once(keeper, arena, tables, *entry, &mut recent);
+    }
+}
+
 // Flushes the caches that a list of changes affects, which were just made. These are the caches of
 // the classes that were made or disposed of, and of the places where rows were written and of all
 // below, by the present tables. What was below a place when a change wrote there still is, except
@@ -97,15 +115,10 @@ fn flush_written(keeper: &mut Keeper, arena: &Arena, tables: &Tables, entries: &
 {
     if entries.len() == 1 {
         flush_entry(keeper, arena, tables, entries[0]);
-        return;
-    }
-    if entries.len() == 2 {
+    } else if entries.len() == 2 {
         flush_both(keeper, arena, tables, entries[0], entries[1]);
-        return;
-    }
-    let mut recent = Recent::none();
-    for entry in entries {
-        flush_once(keeper, arena, tables, *entry, &mut recent);
+    } else {
+        flush_each(keeper, arena, tables, entries);
     }
 }
 

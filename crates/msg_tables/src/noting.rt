@@ -262,7 +262,8 @@ impl Tables {
         ensures ok { OnOk result (IsNoted edit.entry journal.old journal.new self.old self.new) }
         ensures err { OnErr result ((IsKept self.old self.new) × (journal.new.items ≡ journal.old.items)) }
         ensures fault { IfErr result (λ f. f ≡ ChangeFault.Memory) }
-        ensures wanting { OnErr result ((vec_capacity journal.old < length journal.old.items + entry_count self.old edit.entry)
+        ensures wanting { OnErr result
+            ((vec_capacity journal.old < length journal.old.items + entry_count self.old edit.entry)
             ⊎ EditLacksRoom self.old edit.entry) }
         ensures grown { HaveGrown self.old.rooms self.new.rooms }
         ensures room { vec_capacity journal.old ≤ vec_capacity journal.new }

@@ -189,6 +189,8 @@ void recall_reads_inside(void)
 /* ---- msg_open, msg_report: the words that the library is given are the fields ---- */
 static const msg_config *given;
 static struct msg_report_row *row;
+static const msg_runtime *of; /* and what the library answered */
+static uint32_t answered;
 uint32_t msg_open_words(msg_runtime *runtime, const uint32_t *config, size_t words)
 {
     ANY(size_t, i); ANY(uint32_t, answer);
@@ -196,8 +198,8 @@ uint32_t msg_open_words(msg_runtime *runtime, const uint32_t *config, size_t wor
     __CPROVER_assume(i < words);
     uint32_t want = !given ? 0 : i == 0 ? given->classes : i == 1 ? given->senders
                   : given->arrays[i - 2];
-    __CPROVER_assert(config[i] == want, "each word is its field");
-    return answer;
+    __CPROVER_assert(config[i] == want && runtime == of, "each word is its field");
+    return answered = answer;
 }
 void open_gives_the_words(void)
 {
@@ -205,7 +207,8 @@ void open_gives_the_words(void)
     msg_runtime runtime = MSG_RUNTIME_INIT;
     msg_config *config = __CPROVER_allocate(sizeof *config, 0);
     given = has ? config : NULL;
-    msg_open(&runtime, given);
+    of = &runtime;
+    __CPROVER_assert(msg_open(&runtime, given) == answered, "its answer");
 }
 uint32_t msg_report_words(msg_runtime *runtime, uint64_t *words, size_t count)
 {
@@ -216,26 +219,34 @@ uint32_t msg_report_words(msg_runtime *runtime, uint64_t *words, size_t count)
     uint64_t got = i == 0 ? row->fills : i == 1 ? row->growths : i == 2 ? row->flushes
                  : i == 3 ? row->retired : i == 4 ? row->given_again : i == 5 ? row->collections
                  : i == 6 ? row->freed : i < 16 ? row->no_array[i - 7] : row->refused_senders;
-    __CPROVER_assert(got == value, "each word is its field");
-    return answer;
+    __CPROVER_assert(got == value && runtime == of, "each word is its field");
+    return answered = answer;
 }
 void report_gives_the_words(void)
 {
     msg_runtime runtime = MSG_RUNTIME_INIT;
     row = __CPROVER_allocate(sizeof *row, 0);
-    msg_report(&runtime, row);
+    of = &runtime;
+    __CPROVER_assert(msg_report(&runtime, row) == answered, "its answer");
 }
 
 /* ---- msg_find: by the contracts of msg_probe and msg_fill, of which these are the clauses that
  * count ---- */
 static int held, probes, fills, locks;
 static uint32_t probed, filled, first_imp;
+static struct { uint32_t number, sel; bool meta; const uint32_t *imp; } wanted;
+static bool is_wanted(msg_sender *s, uint32_t number, bool meta, uint32_t sel, uint32_t *imp)
+{
+    bool is_into = s == SENDER && imp == wanted.imp;
+    return is_into && number == wanted.number && meta == wanted.meta && sel == wanted.sel;
+}
 uint32_t msg_probe(msg_sender *s, uint32_t number, bool meta, uint32_t sel, uint32_t *imp)
 {
     ANY(uint32_t, answer); ANY(uint32_t, value);
+    __CPROVER_assert(is_wanted(s, number, meta, sel, imp), "what is asked is probed for");
     bool is_fault = answer == MSG_CLOSED || answer == MSG_NO_CLASS || answer == MSG_NO_SELECTOR;
     __CPROVER_assume(answer == MSG_DONE || answer == MSG_MISSED || is_fault);
-    if (answer == MSG_DONE) *imp = value; /* left: else it stays */
+    if (answer == MSG_DONE) *imp = first_imp = value; /* left: else it stays */
     probes++;
     probed = answer;
     return answer;
@@ -245,8 +256,9 @@ uint32_t msg_fill(msg_runtime *runtime, msg_sender *s, uint32_t number, bool met
 {
     ANY(uint32_t, answer); ANY(uint32_t, value);
     __CPROVER_assert(held == 1, "a fill is under the lock");
+    __CPROVER_assert(is_wanted(s, number, meta, sel, imp) && runtime == of, "it is filled");
     __CPROVER_assume(answer != MSG_MISSED);
-    if (answer == MSG_DONE) *imp = value;
+    if (answer == MSG_DONE) *imp = first_imp = value;
     fills++;
     filled = answer;
     return answer;
@@ -271,25 +283,35 @@ void find_asks_in_order(void)
     msg_runtime runtime; /* as anything opened it */
     __CPROVER_assume(runtime.open == (runtime.at != 0) && SENDER->open == (SENDER->at != 0));
     held = probes = fills = locks = 0;
+    wanted.number = number, wanted.sel = sel, wanted.meta = meta, wanted.imp = &imp;
+    of = &runtime;
     uint32_t before = imp, answer = msg_find(&runtime, &lock_word, SENDER, number, meta, sel, &imp);
     __CPROVER_assert(!held, "the lock is given");
     bool is_filled = fills == (probed == MSG_MISSED) && locks == fills;
     __CPROVER_assert(probes == 1 && is_filled, "one probe; a fill after a miss alone");
     __CPROVER_assert(answer == (fills ? filled : probed) && answer != MSG_MISSED, "its answer");
     __CPROVER_assert(answer == MSG_DONE || imp == before, "nothing is written after a fault");
+    __CPROVER_assert(answer || imp == first_imp, "the number is what was answered");
 }
 
 /* ---- msg_find_all: by those of msg_probe_all and msg_fill_all ---- */
 static const msg_lookup_row *asked;
+static const size_t *where;
+static bool are_wanted(msg_sender *s, const msg_lookup_row *lookups, size_t count, uint32_t *imps,
+                       size_t room, size_t *place)
+{
+    bool is_into = s == SENDER && imps == wanted.imp && place == where;
+    return is_into && lookups == asked && count == 1 && room == 1;
+}
 uint32_t msg_probe_all(msg_sender *s, const msg_lookup_row *lookups, size_t count, uint32_t *imps,
                        size_t room, size_t *place)
 {
     ANY(uint32_t, answer); ANY(uint32_t, value);
     bool is_fault = answer == MSG_CLOSED || answer == MSG_NO_CLASS || answer == MSG_NO_SELECTOR ||
                     answer == MSG_BAD_CHANGE;
-    __CPROVER_assert(lookups == asked && room == count, "all that are asked, with room for each");
+    __CPROVER_assert(are_wanted(s, lookups, count, imps, room, place), "all that are asked");
     __CPROVER_assume(answer == MSG_DONE || answer == MSG_MISSED || is_fault);
-    if (!is_fault) *imps = value; /* after a miss it means nothing */
+    if (!is_fault) *imps = first_imp = value; /* after a miss it means nothing */
     probes++;
     probed = answer;
     return answer;
@@ -298,8 +320,8 @@ uint32_t msg_fill_all(msg_runtime *runtime, msg_sender *s, const msg_lookup_row 
                       size_t count, uint32_t *imps, size_t room, size_t *place)
 {
     ANY(uint32_t, answer); ANY(uint32_t, value);
-    __CPROVER_assert(held == 1, "a fill is under the lock");
-    __CPROVER_assert(lookups == asked && room == count, "all that are asked, with room for each");
+    __CPROVER_assert(held == 1 && runtime == of, "a fill is under the lock");
+    __CPROVER_assert(are_wanted(s, lookups, count, imps, room, place), "all that are asked");
     __CPROVER_assume(answer != MSG_MISSED);
     if (answer == MSG_DONE) *imps = value;
     fills++;
@@ -315,11 +337,11 @@ void find_all_asks_in_order(void)
     size_t place = 0;
     __CPROVER_assume(runtime.open == (runtime.at != 0) && SENDER->open == (SENDER->at != 0));
     held = probes = fills = locks = 0;
-    asked = &row;
+    asked = &row, where = &place, wanted.imp = &imp, of = &runtime;
     uint32_t answer = msg_find_all(&runtime, &lock_word, SENDER, &row, 1, &imp, &place);
     __CPROVER_assert(!held, "the lock is given");
     bool is_filled = fills == (probed == MSG_MISSED) && locks == fills;
     __CPROVER_assert(probes == 1 && is_filled, "one probe; a fill after a miss alone");
     __CPROVER_assert(answer == (fills ? filled : probed) && answer != MSG_MISSED, "its answer");
-    __CPROVER_assert(answer || !fills || imp == first_imp, "after a miss what the fill answered");
+    __CPROVER_assert(answer || imp == first_imp, "the number is what was answered");
 }

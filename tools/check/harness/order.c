@@ -1,9 +1,10 @@
 /* What is run of trusted/process/msg_process.c and the inline finds: one thread, up to SIGNALS
  * handlers of signals that come before any load or store (each may be interrupted itself, DEPTH
  * deep), and another thread that changes the tables step by step at any time. Sequentially
- * consistent. The library is a model: it says no more than its contracts (msg_probe, msg_fill: what
- * a lookup finds at all changes, noted after as many as the stamp of the class says, or more; a
- * change closes the stamps of what it reaches before it is made). */
+ * consistent. The library is a model, by its contracts (msg_probe, msg_fill: what a lookup finds at
+ * all changes, noted after as many as the stamp of the class says, or more; a change closes the
+ * stamps of what it reaches before it is made). One thing more is assumed: a probe that hits is of
+ * all changes that have returned, which is tested alone. */
 #include <stdatomic.h>
 #include <stdbool.h>
 #include <stdint.h>
@@ -19,7 +20,7 @@ static void STEP(void);
 #define any_refused() any_bool()
 #endif
 static void other(bool all);
-#define cv_store(p, v) ({ __typeof__(*(p)) cv_value = (v); STEP(); *(p) = cv_value; })
+#define cv_store(p, v) ({ __typeof__(*(p)) cv_value = (v); STEP(); GUEST_MAY(); *(p) = cv_value; })
 #undef atomic_load
 #undef atomic_store
 #undef atomic_load_explicit
@@ -35,7 +36,7 @@ static unsigned long words[3]; /* the count of changes, and the stamps of two cl
 #define __atomic_store_n(p, v, order) cv_store(p, v)
 #define __atomic_exchange_n(p, v, order) \
     ({ STEP(); __typeof__(*(p)) cv_old = *(p); *(p) = (v); cv_old; })
-#ifdef FORKS /* the guest shares more: `forks`, and its own `asks` */
+#if defined FORKS || defined FORKER /* the other shares more: `forks`, and `asks` */
 #define GUEST_MAY() other(false)
 #else
 #define GUEST_MAY() ((void)0)
@@ -97,6 +98,7 @@ struct seat *cv_seat(void);
 void cv_free(struct seat *);
 static uint64_t cv_number = 1; /* the kernel's, of the thread */
 #include "msg_process.c"
+struct msg_room msgroom;
 #include "shim_note.h"
 
 static int depth;
@@ -172,9 +174,11 @@ void cv_free(struct seat *seat)
     taken[seat - pool] = false;
 }
 
+static int fork_is; /* another thread's: not begun, counted, with the lock, going on, over */
 static void enter(const msg_sender *s)
 {
     other(false);
+    __CPROVER_assert(fork_is != 3, "RULE 5: no call begins while a fork goes on");
     const struct seat *seat = SEAT_OF(s);
     __CPROVER_assert(seat >= pool && seat < pool + SEATS, "a sender of a seat");
     __CPROVER_assert(opened[WHICH(s)], "that is open");
@@ -294,7 +298,7 @@ uint32_t msg_words(msg_runtime *r, const uint64_t **w) { *w = words; return 0; }
  * ---- */
 static int state, rounds, others_finds;
 /* Of each lookup the oldest answer that the thread had since it rested: the change that brought it.
- * And the most that msg_process_seen_by_all told. */
+ * And the most that was seen by all, as msg_process_seen_by_all counts it. */
 static uint64_t in_use[2], told;
 #define NOTHING UINT64_MAX
 static void tell_what_is_seen(void)
@@ -311,6 +315,23 @@ static void tell_what_is_seen(void)
 #ifdef FORKS
 static void guest(void);
 #endif
+#ifdef FORKER
+/* Another thread forks, by the steps of before_fork and in_parent. */
+static void fork_goes_on(void)
+{
+    bool asks = false;
+    for (int i = 0; i < SEATS; i++) asks = asks || (taken[i] && pool[i].asks);
+    switch (fork_is) {
+    case 0: forks++; fork_is = 1; break;
+    case 1: if (!holder) holder = 2, fork_is = 2; break;
+    case 2: if (asks) holder = 0, fork_is = 1; else still = true, fork_is = 3; break;
+    default:
+        for (int i = 0; i < SEATS; i++)
+            __CPROVER_assert(!inside[i], "RULE 5: no sender is in a call while a fork goes on");
+        forks--; still = false; holder = 0; fork_is = 4;
+    }
+}
+#endif
 static bool is_alone; /* in the child of a fork */
 static void other(bool all)
 {
@@ -318,6 +339,10 @@ static void other(bool all)
     if (is_alone) return;
 #ifdef FORKS
     guest();
+#endif
+#ifdef FORKER
+    for (int i = 0; all ? fork_is == 2 || fork_is == 3 : i < 4 && fork_is < 4 && any_bool(); i++)
+        fork_goes_on();
 #endif
     /* a find that missed: it fills under the lock, so stamps are opened */
     if (state == 0 && holder == 0 && others_finds < FINDS && !all && any_bool()) {
@@ -644,6 +669,15 @@ static void guest_leaves(void)
     taken[GUESTS] = opened[GUESTS] = inside[GUESTS] = false;
 }
 #endif
+/* One sender more is spare, as of a thread that has ended. */
+static void spares_one(void)
+{
+    if (spare_count >= SPARES || take(MSG_WAITS)) return;
+    struct seat *seat = new_seat();
+    if (seat && opens(seat)) push_spare(seat);
+    else if (seat) free_seat(seat);
+    give();
+}
 /* Each way of a find or a send; and what a thread does between them. */
 static void any_way(bool in_handler)
 {
@@ -654,7 +688,7 @@ static void any_way(bool in_handler)
     else if (any_bool()) changes();
     else if (any_bool()) rests();
     else if (any_bool()) ends();
-    else msg_process_spare();
+    else spares_one();
 }
 
 static int depth, signals;
@@ -682,7 +716,7 @@ static int one_run(void)
 #if defined ANY
     for (int i = 0; i < ANY; i++) any_way(false);
 #elif defined SHIM
-    if (any_bool()) msg_process_spare();
+    if (any_bool()) spares_one();
     shim_sends(); shim_sends();
 #elif defined CHANGES
     finds(true, false); changes(); finds(true, false);
@@ -711,10 +745,7 @@ static int one_run(void)
     __CPROVER_assert(seats == own && (!own || !own->next), "a thread has one sender");
     unsigned many = taken[0] + taken[1] + taken[2] + taken[3];
     __CPROVER_assert(many == spare_count + (own != NULL), "each open sender is its own or spare");
-    /* One that a handler opens stays spare where another thread then has the lock, which it would
-     * sit down under. The find that it interrupted may have seen before that none was spare. */
-    unsigned left = ROUNDS + FINDS ? signals : 0;
-    __CPROVER_assert(many <= 1 + spare_most + left, "and opens no more than one, and spare ones");
+    __CPROVER_assert(many <= 1 + SPARES, "and opens no more than one, and spare ones");
     bool is_shown = !own || is_away || msg_process_own.sender == &own->sender;
     __CPROVER_assert(is_shown, "a thread goes on to use its sender");
     bool is_out = !inside[0] && !inside[1] && !inside[2] && !inside[3];

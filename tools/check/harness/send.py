@@ -1,5 +1,5 @@
 #!/usr/bin/env python3
-"""Whether the compiled way of a send loads its note in the order of trusted/objc/seat.h, where that is
+"""Checks that a compiled send loads its note in the order of trusted/objc/seat.h, where that is
 assembly: `send.py ROOT FLAGS..` compiles ROOT/trusted/objc/sending.c for x86-64.
 
 Each inline copy of the assembly has to be just the lines of WAY, one after the other and with no
@@ -20,9 +20,11 @@ j[bc] .*
 subq SEAL\(\1,\2,4\), %\w+
 """
 root, flags = sys.argv[1], sys.argv[2:]
-made = subprocess.run(["cc", "-std=c11", "-O2", "-D_DEFAULT_SOURCE", "-D_GNU_SOURCE", "-w", *flags, f"-I{root}/include",
-                       f"-I{root}/trusted/objc", "-x", "c", "-S", "-o", "-", "-"], input=PROBE, text=True, stdout=subprocess.PIPE, check=True).stdout
-places = dict(zip(("STAMP", "COUNT", "SEAL"), re.search(r"places (\d+) (\d+) (\d+)", made).groups()))
+words = ["cc", "-std=c11", "-O2", "-D_DEFAULT_SOURCE", "-D_GNU_SOURCE", "-w", *flags]
+words += [f"-I{root}/include", f"-I{root}/trusted/objc", "-x", "c", "-S", "-o", "-", "-"]
+made = subprocess.run(words, input=PROBE, text=True, stdout=subprocess.PIPE, check=True).stdout
+places = re.search(r"places (\d+) (\d+) (\d+)", made).groups()
+places = dict(zip(("STAMP", "COUNT", "SEAL"), places))
 blocks = len(re.findall(r"(?m)^\s*#APP$", made)) - 1  # without the probe's own
 code = re.sub(r"(?m)#.*|^\s*\.(?!L).*|\{disp32\}", "", made)
 code = re.sub(r"\s*\n\s*", "\n", re.sub(r"[ \t]+", " ", code))
@@ -31,5 +33,6 @@ copies = len(way.findall(code))
 send = re.search(r"(?s)\nobjc_msg_lookup:\n.*?\n(?=[a-z_]\w*:)", code)[0]
 loads = re.findall(r"\d*\(%\w+,%\w+,4\)", send)
 if not way.search(send) or len(loads) != 3 or blocks != 3 * copies:
-    sys.exit(f"{send}objc_msg_lookup loads of a note: {' '.join(loads)}\nblocks of assembly: {blocks}, copies of the way: {copies}")
+    sys.exit(f"{send}objc_msg_lookup loads of a note: {' '.join(loads)}\n"
+             f"blocks of assembly: {blocks}, copies of the way: {copies}")
 print(f"ALL RIGHT: {copies} copies")

@@ -1,16 +1,21 @@
-"""As much of a server of LDAP as openvpn-auth-ldap asks:   ldap_server.py PORT. It knows one person, alice, whose password is right, and one group."""
+"""ldap_server.py PORT: as much of a server of LDAP as openvpn-auth-ldap asks. It knows one person,
+alice, whose password is right, and one group."""
 import socketserver
 import sys
 
-ENTRIES = {b"alice": b"uid=alice,ou=People,dc=example,dc=com", b"developers": b"cn=developers,ou=Groups,dc=example,dc=com"}
+ENTRIES = {
+    b"alice": b"uid=alice,ou=People,dc=example,dc=com",
+    b"developers": b"cn=developers,ou=Groups,dc=example,dc=com",
+}
 BIND, UNBIND, SEARCH, COMPARE = 0x60, 0x42, 0x63, 0x6E
 DONE = {BIND: 0x61, SEARCH: 0x65, COMPARE: 0x6F}
 INVALID_CREDENTIALS, COMPARE_TRUE = 49, 6
 
 
 def piece(tag, inner):
-    size = bytes([len(inner)]) if len(inner) < 128 else bytes([0x82]) + len(inner).to_bytes(2, "big")
-    return bytes([tag]) + size + inner
+    size = len(inner)
+    head = [tag, size] if size < 128 else [tag, 0x82, *size.to_bytes(2, "big")]
+    return bytes(head) + inner
 
 
 def answer(number, tag, inner):
@@ -40,7 +45,8 @@ class Client(socketserver.StreamRequestHandler):
             number, kind = message[2:2 + message[1]], message[2 + message[1]]
             asked = message[2 + message[1]:]
             if kind == BIND:
-                self.wfile.write(result(number, kind, 0 if asked.endswith((b"right", b"\x80\x00")) else INVALID_CREDENTIALS))
+                is_right = asked.endswith((b"right", b"\x80\x00"))
+                self.wfile.write(result(number, kind, 0 if is_right else INVALID_CREDENTIALS))
             elif kind == SEARCH:
                 for word, name in ENTRIES.items():
                     if word in asked:

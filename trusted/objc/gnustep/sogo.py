@@ -1,8 +1,8 @@
-"""sogo.py ROUNDS [WORDS..]: SOGo with its database and its memory for sessions, all started in an
-empty /tmp and /run with no network but the machine's own. One user asks for pages, and for events
-and cards by DAV: 23 requests in each of ROUNDS rounds. Tells how many were made and how many were
-answered by an error, and the kibibytes that sogod then had resident. WORDS start sogod, as valgrind
-does. What WORDS print is on the standard error.
+"""sogo.py ROUNDS [WORDS..]: runs SOGo with its database and its memory for sessions, all started in
+an empty /tmp and /run with no network but the machine's own. One user asks for pages, and for
+events and cards by DAV: 23 requests in each of ROUNDS rounds. It tells how many were made and how
+many were answered by an error, and the kibibytes that sogod then had resident. WORDS start sogod,
+as valgrind does. What WORDS print is on the standard error.
 """
 import base64
 import http.client
@@ -18,46 +18,104 @@ import time
 PLACE, DAEMON_PLACE, PORT, PATIENCE = "/tmp/sogo", "/run/sogo", 20000, 600
 USER, PASSWORD = "alice", "right"
 DATABASE = "postgresql://sogo@127.0.0.1:5432/sogo"
-TABLES = {"SOGoProfileURL": "user_profile", "OCSFolderInfoURL": "folder_info", "OCSSessionsFolderURL": "sessions_folder", "OCSEMailAlarmsFolderURL": "alarms_folder"}
-SOURCE = f'({{type=sql; id=users; viewURL="{DATABASE}/users"; canAuthenticate=YES; isAddressBook=YES; userPasswordAlgorithm=plain; displayName=Users;}})'
-DEFAULTS = {
-    **{name: f"{DATABASE}/sogo_{table}" for name, table in TABLES.items()},
-    "SOGoUserSources": SOURCE, "SOGoMemcachedHost": "127.0.0.1", "SOGoTimeZone": "UTC", "SOGoMailDomain": "example.com", "SOGoIMAPServer": "imap://127.0.0.1:143",
-    "SOGoXSRFValidationEnabled": "NO", "SxVMemLimit": "0", "WOWorkersCount": "1", "WOUseWatchDog": "NO", "WONoDetach": "YES", "WOPort": f"127.0.0.1:{PORT}", "WOLogFile": "-", "WOPidFile": f"{DAEMON_PLACE}/pid",
-}
-USERS = f"CREATE TABLE users (c_uid text primary key, c_name text, c_password text, c_cn text, mail text); INSERT INTO users VALUES ('{USER}', '{USER}', '{PASSWORD}', 'Alice A', '{USER}@example.com'), ('bob', 'bob', 'right', 'Bob B', 'bob@example.com')"
-PAGES = (
-    "Calendar/view", "Contacts/view", "Preferences", "Mail/view", "Calendar/calendarslist", "Calendar/eventslist?day=20260505&view=dayview&sd=20260501&ed=20260601",
-    "Calendar/eventsblocks?view=weekview&sd=20260501&ed=20260601", "Calendar/alarmslist?browserTime=1", "Calendar/taskslist", "Contacts/users/view?search=name_or_address&value=ali&sort=c_cn&asc=1",
-    "Contacts/personal/view", "jsonDefaults", "jsonSettings",
-)
-EVENT = "BEGIN:VCALENDAR\r\nVERSION:2.0\r\nPRODID:-//T//EN\r\nBEGIN:VEVENT\r\nUID:e%d\r\nDTSTAMP:20260101T000000Z\r\nDTSTART:202605%02dT100000Z\r\nDTEND:202605%02dT110000Z\r\nSUMMARY:An event\r\nEND:VEVENT\r\nEND:VCALENDAR\r\n"
-CARD = "BEGIN:VCARD\r\nVERSION:3.0\r\nUID:c%d\r\nFN:A card\r\nN:Card;A;;;\r\nEMAIL:card@example.com\r\nEND:VCARD\r\n"
-PROPERTIES = '<?xml version="1.0"?><D:propfind xmlns:D="DAV:"><D:prop><D:displayname/><D:resourcetype/><D:getetag/></D:prop></D:propfind>'
-RANGE = '<C:filter><C:comp-filter name="VCALENDAR"><C:comp-filter name="VEVENT"><C:time-range start="20260101T000000Z" end="20261201T000000Z"/></C:comp-filter></C:comp-filter></C:filter>'
-QUERY = f'<?xml version="1.0"?><C:calendar-query xmlns:D="DAV:" xmlns:C="urn:ietf:params:xml:ns:caldav"><D:prop><D:getetag/><C:calendar-data/></D:prop>{RANGE}</C:calendar-query>'
-FROM = {"User-Agent": "Mozilla/5.0 (X11; Linux x86_64; rv:140.0) Gecko/20100101 Firefox/140.0", "x-webobjects-server-port": "80", "x-webobjects-server-name": "localhost", "x-webobjects-server-url": "http://localhost"}
+SOURCE = (f'({{type=sql; id=users; viewURL="{DATABASE}/users"; canAuthenticate=YES; '
+          "isAddressBook=YES; userPasswordAlgorithm=plain; displayName=Users;})")
+DEFAULTS = f"""
+SOGoProfileURL={DATABASE}/sogo_user_profile
+OCSFolderInfoURL={DATABASE}/sogo_folder_info
+OCSSessionsFolderURL={DATABASE}/sogo_sessions_folder
+OCSEMailAlarmsFolderURL={DATABASE}/sogo_alarms_folder
+SOGoMemcachedHost=127.0.0.1
+SOGoTimeZone=UTC
+SOGoMailDomain=example.com
+SOGoIMAPServer=imap://127.0.0.1:143
+SOGoXSRFValidationEnabled=NO
+SxVMemLimit=0
+WOWorkersCount=1
+WOUseWatchDog=NO
+WONoDetach=YES
+WOPort=127.0.0.1:{PORT}
+WOLogFile=-
+WOPidFile={DAEMON_PLACE}/pid
+"""
+USERS = ("CREATE TABLE users (c_uid text primary key, c_name text, c_password text, c_cn text, "
+         f"mail text); INSERT INTO users VALUES ('{USER}', '{USER}', '{PASSWORD}', 'Alice A', "
+         f"'{USER}@example.com'), ('bob', 'bob', 'right', 'Bob B', 'bob@example.com')")
+PAGES = """
+Calendar/view
+Contacts/view
+Preferences
+Mail/view
+Calendar/calendarslist
+Calendar/eventslist?day=20260505&view=dayview&sd=20260501&ed=20260601
+Calendar/eventsblocks?view=weekview&sd=20260501&ed=20260601
+Calendar/alarmslist?browserTime=1
+Calendar/taskslist
+Contacts/users/view?search=name_or_address&value=ali&sort=c_cn&asc=1
+Contacts/personal/view
+jsonDefaults
+jsonSettings
+"""
+EVENT = """BEGIN:VCALENDAR
+VERSION:2.0
+PRODID:-//T//EN
+BEGIN:VEVENT
+UID:e%d
+DTSTAMP:20260101T000000Z
+DTSTART:202605%02dT100000Z
+DTEND:202605%02dT110000Z
+SUMMARY:An event
+END:VEVENT
+END:VCALENDAR
+""".replace("\n", "\r\n")
+CARD = """BEGIN:VCARD
+VERSION:3.0
+UID:c%d
+FN:A card
+N:Card;A;;;
+EMAIL:card@example.com
+END:VCARD
+""".replace("\n", "\r\n")
+PROPERTIES = ('<?xml version="1.0"?><D:propfind xmlns:D="DAV:"><D:prop><D:displayname/>'
+              "<D:resourcetype/><D:getetag/></D:prop></D:propfind>")
+QUERY = ('<?xml version="1.0"?><C:calendar-query xmlns:D="DAV:" '
+         'xmlns:C="urn:ietf:params:xml:ns:caldav"><D:prop><D:getetag/><C:calendar-data/></D:prop>'
+         '<C:filter><C:comp-filter name="VCALENDAR"><C:comp-filter name="VEVENT">'
+         '<C:time-range start="20260101T000000Z" end="20261201T000000Z"/>'
+         "</C:comp-filter></C:comp-filter></C:filter></C:calendar-query>")
+AGENT = "Mozilla/5.0 (X11; Linux x86_64; rv:140.0) Gecko/20100101 Firefox/140.0"
+FROM = {"User-Agent": AGENT, "x-webobjects-server-port": "80",
+        "x-webobjects-server-name": "localhost", "x-webobjects-server-url": "http://localhost"}
 BASIC = {"Authorization": "Basic " + base64.b64encode(f"{USER}:{PASSWORD}".encode()).decode()}
 XML = {**BASIC, "Content-Type": "application/xml; charset=utf-8", "Depth": "1"}
 PLAIN = {name: value for name, value in os.environ.items() if not name.startswith("LD_")}
 SILENT = {"stdout": subprocess.DEVNULL, "stderr": subprocess.DEVNULL}
 
 
+def by_user(name):
+    """The words that run a program as a user."""
+    return ["setpriv", "--reuid", name, "--regid", name, "--clear-groups"]
+
+
 def of_postgres(program, *words, run=subprocess.run, **more):
-    path = sorted(os.path.join("/usr/lib/postgresql", version, "bin") for version in os.listdir("/usr/lib/postgresql"))[-1]
-    return run(["setpriv", "--reuid", "postgres", "--regid", "postgres", "--clear-groups", os.path.join(path, program), *words], env=PLAIN, **SILENT, **more)
+    place = "/usr/lib/postgresql"
+    program = f"{place}/{sorted(os.listdir(place))[-1]}/bin/{program}"
+    return run([*by_user("postgres"), program, *words], env=PLAIN, **SILENT, **more)
 
 
 def start_database():
     os.makedirs(PLACE)
     shutil.chown(PLACE, "postgres", "postgres")
-    data = os.path.join(PLACE, "data")
-    of_postgres("initdb", "-D", data, "-A", "trust", "-E", "UTF8", "--no-sync", "--locale=C.UTF-8", check=True)
-    server = of_postgres("postgres", "-D", data, "-k", PLACE, "-c", "fsync=off", "-c", "listen_addresses=127.0.0.1", run=subprocess.Popen)
+    data = ("-D", f"{PLACE}/data")
+    how = ("-A", "trust", "-E", "UTF8", "--no-sync", "--locale=C.UTF-8")
+    of_postgres("initdb", *data, *how, check=True)
+    how = ("-k", PLACE, "-c", "fsync=off", "-c", "listen_addresses=127.0.0.1")
+    server = of_postgres("postgres", *data, *how, run=subprocess.Popen)
     while of_postgres("pg_isready", "-h", "127.0.0.1").returncode:
         time.sleep(0.1)
-    for who, where, what in (("postgres", "postgres", "CREATE USER sogo"), ("postgres", "postgres", "CREATE DATABASE sogo OWNER sogo"), ("sogo", "sogo", USERS)):
-        of_postgres("psql", "-h", "127.0.0.1", "-U", who, where, "-c", what, check=True)
+    for who, what in (("postgres", "CREATE USER sogo"),
+                      ("postgres", "CREATE DATABASE sogo OWNER sogo"), ("sogo", USERS)):
+        of_postgres("psql", "-h", "127.0.0.1", "-U", who, who, "-c", what, check=True)
     return server
 
 
@@ -66,9 +124,10 @@ def start_sogod(words):
     shutil.chown(DAEMON_PLACE, "sogo", "sogo")
     os.chmod("/tmp", 0o1777)
     os.chmod("/root", 0o755)
-    given = [word for name, value in DEFAULTS.items() for word in ("-" + name, value)]
-    start = ["setpriv", "--reuid", "sogo", "--regid", "sogo", "--clear-groups", *words, "/usr/sbin/sogod", *given]
-    return subprocess.Popen(start, env={**os.environ, "HOME": DAEMON_PLACE}, stdout=subprocess.DEVNULL)
+    given = [word for line in DEFAULTS.split() for word in ("-" + line).split("=", 1)]
+    start = [*by_user("sogo"), *words, "/usr/sbin/sogod", *given, "-SOGoUserSources", SOURCE]
+    env = {**os.environ, "HOME": DAEMON_PLACE}
+    return subprocess.Popen(start, env=env, stdout=subprocess.DEVNULL)
 
 
 class Browser:
@@ -82,7 +141,8 @@ class Browser:
         answer = to.getresponse()
         answer.read()
         for name, value in answer.getheaders():
-            if name.lower() == "set-cookie" and value.startswith("0xHIGHFLYxSOGo=") and "discard" not in value:
+            is_ours = name.lower() == "set-cookie" and value.startswith("0xHIGHFLYxSOGo=")
+            if is_ours and "discard" not in value:
                 self.cookie = {"Cookie": value.split(";")[0]}
         to.close()
         self.made += 1
@@ -103,12 +163,15 @@ class Browser:
     def round(self, number):
         event, card = (f"dav/{USER}/{folder}/personal/" for folder in ("Calendar", "Contacts"))
         self.ask("GET", "")
-        self.ask("POST", "connect", json.dumps({"userName": USER, "password": PASSWORD}), {"Content-Type": "application/json"})
-        for page in PAGES:
+        who = json.dumps({"userName": USER, "password": PASSWORD})
+        self.ask("POST", "connect", who, {"Content-Type": "application/json"})
+        for page in PAGES.split():
             self.ask("GET", f"so/{USER}/{page}")
         day = number % 28 + 1
-        self.ask("PUT", f"{event}e{number}.ics", EVENT % (number, day, day), {**BASIC, "Content-Type": "text/calendar"})
-        self.ask("PUT", f"{card}c{number}.vcf", CARD % number, {**BASIC, "Content-Type": "text/vcard"})
+        calendar = {**BASIC, "Content-Type": "text/calendar"}
+        self.ask("PUT", f"{event}e{number}.ics", EVENT % (number, day, day), calendar)
+        vcard = {**BASIC, "Content-Type": "text/vcard"}
+        self.ask("PUT", f"{card}c{number}.vcf", CARD % number, vcard)
         for path in (f"dav/{USER}/", event, card):
             self.ask("PROPFIND", path, PROPERTIES, XML)
         self.ask("REPORT", event, QUERY, XML)
@@ -124,7 +187,8 @@ def main(rounds, *words):
         browser.round(number)
     with open(f"/proc/{daemon.pid}/status", encoding="utf-8") as file:
         resident = re.search(r"^VmRSS:\s+(\d+)", file.read(), re.M)[1]
-    for process, signaled in ((daemon, signal.SIGTERM), (server, signal.SIGINT), (memory, signal.SIGTERM)):
+    ends = ((daemon, signal.SIGTERM), (server, signal.SIGINT), (memory, signal.SIGTERM))
+    for process, signaled in ends:
         process.send_signal(signaled)
         process.wait()
     print(f"requests {browser.made} wrong {browser.wrong} resident {resident}", flush=True)

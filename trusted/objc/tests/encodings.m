@@ -32,8 +32,12 @@ int main(void)
     printf("rounded up: %d %d\n", objc_aligned_size("{p=ic}"), objc_promoted_size("s"));
     printf("qualifiers: %u, then %s\n", objc_get_type_qualifiers("rnO@16"),
            objc_skip_type_qualifiers("rnO@16"));
+    for (const char *letter = "rnNoORV@"; *letter; letter++)
+        printf("%u ", objc_get_type_qualifiers((char[]){*letter, 'i', 0}));
+    printf("%u\n", objc_get_type_qualifiers("noVi"));
     printf("skipped: %s %s %s\n", objc_skip_typespec("^{a=i[3(b=fc)]}8@0"),
            objc_skip_argspec("{a=i}8@0:4"), objc_skip_offset("-12i"));
+    printf("%s %s %s\n", objc_skip_offset("+12i"), objc_skip_offset("12i"), objc_skip_offset("i"));
     struct objc_struct_layout layout;
     unsigned int offset, align, size;
     const char *type;
@@ -43,6 +47,16 @@ int main(void)
         printf("%c at %u by %u\n", *type, offset, align);
     }
     objc_layout_finish_structure(&layout, &size, &align);
+    printf("size %u by %u\n", size, align);
+    objc_layout_structure("(n=cd^i)", &layout);
+    while (objc_layout_structure_next_member(&layout)) {
+        objc_layout_structure_get_info(&layout, &offset, NULL, NULL);
+        objc_layout_structure_get_info(&layout, NULL, &align, &type);
+        printf("%c at %u by %u\n", *type, offset, align);
+    }
+    size = align = 0;
+    objc_layout_finish_structure(&layout, &size, NULL);
+    objc_layout_finish_structure(&layout, NULL, &align);
     printf("size %u by %u\n", size, align);
     return 0;
 }

@@ -1,5 +1,5 @@
-/* @try, @catch by class, @finally, thrown again, through frames and out of +initialize, a
- * matcher of the program's, and one that nobody catches. */
+/* @try, @catch by class, @finally, thrown again, through frames, out of +initialize and past what
+ * is to be cleaned up, a matcher of the program's, and one that nobody catches. */
 #include "roots.h"
 #include <stdio.h>
 #include <stdlib.h>
@@ -50,6 +50,19 @@ static const char *caught_by(id object)
     return by;
 }
 
+static int cleaned;
+static void clean(int *unused) { cleaned++; }
+
+/* A frame with a handler that doesn't take it, and what is cleaned up. */
+static __attribute__((noinline)) void throw_past(id object)
+{
+    @try {
+        int kept __attribute__((cleanup(clean))) = 0;
+        @throw object;
+    }
+    @catch (Deep *deep) { printf("not for Deep\n"); }
+}
+
 static int matches_all(Class class_, id object) { return 1; }
 
 static void at_end(id object)
@@ -71,6 +84,12 @@ int main(void)
     printf("%s\n", caught_by(new("Trouble")));
     printf("%s\n", caught_by(new("Other")));
     printf("%s\n", caught_by(nil));
+    @try {
+        throw_past(new("Other"));
+    } @catch (Other *other) {
+        printf("cleaned up %d\n", cleaned);
+        object_dispose(other);
+    }
     @try {
         [Late value];
     } @catch (Other *other) {

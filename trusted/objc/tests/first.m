@@ -1,8 +1,10 @@
 /* What comes before a class's first message: +initialize before a resolver, also one that
- * throws, and of a class whose method was replaced before. */
+ * throws, and of a class whose method was replaced before. What was initialized answers other
+ * threads also while another class's +initialize runs. */
 #include "roots.h"
 #include <pthread.h>
 #include <stdio.h>
+#include <unistd.h>
 
 __attribute__((objc_root_class)) @interface Base { Class isa; }
 + (int)value;
@@ -30,6 +32,13 @@ ASKED(Responding)
 ASKED(Getting)
 ASKED(GettingClass)
 ASKED(Implementing)
+ASKED(Knowing)
+@interface Knowing (Own)
+- (int)own;
+@end
+@implementation Knowing (Own)
+- (int)own { return 3; }
+@end
 
 @interface Throwing : Base
 @end
@@ -51,6 +60,31 @@ static int of_replaced;
 @implementation Replaced
 + (void)initialize { of_replaced++; }
 + (int)own { return 5; }
+@end
+
+enum { MOMENT = 1000, MOMENTS = 20000 };
+
+static int asked;
+
+static void *ask_base(void *none)
+{
+    int is = class_respondsToSelector(objc_getMetaClass("Base"), sel_registerName("unheard"));
+    is = is || class_getClassMethod(objc_getClass("Base"), sel_registerName("unheard too"));
+    __atomic_store_n(&asked, is ? -1 : 1, __ATOMIC_SEQ_CST);
+    return none;
+}
+
+@interface Slow : Base
+@end
+static pthread_t beside;
+static int meanwhile;
+@implementation Slow
++ (void)initialize
+{
+    pthread_create(&beside, NULL, ask_base, NULL);
+    for (int i = 0; i < MOMENTS && !__atomic_load_n(&asked, __ATOMIC_SEQ_CST); i++) usleep(MOMENT);
+    meanwhile = __atomic_load_n(&asked, __ATOMIC_SEQ_CST);
+}
 @end
 
 static void tell(const char *what)
@@ -89,6 +123,8 @@ int main(void)
     tell("class_getClassMethod");
     class_getMethodImplementation(objc_getClass("Implementing"), none);
     tell("class_getMethodImplementation");
+    class_getInstanceMethod(objc_getClass("Knowing"), @selector(own));
+    tell("class_getInstanceMethod of one that is there");
 
     int before = try_it(send_below), again = try_it(send_below), answer = 0;
     printf("below one that throws: %d %d, initialized %d\n", before, again, of_below);
@@ -103,5 +139,8 @@ int main(void)
     class_replaceMethod(objc_getMetaClass("Replaced"), @selector(own), (IMP)late, "i16@0:8");
     answer = [Replaced own];
     printf("replaced before: %d, initialized %d, Base %d\n", answer, of_replaced, of_base);
+    answer = [Slow value];
+    pthread_join(beside, NULL);
+    printf("while another is initialized: asked %d, sent %d\n", meanwhile, answer);
     return 0;
 }

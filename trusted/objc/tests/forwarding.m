@@ -4,7 +4,12 @@
 #include <stdio.h>
 #include <stdlib.h>
 
+struct wide { long parts[3]; };
+union either { long parts[3]; double other; };
+
 @interface Target : Object
+- (struct wide)wide;
+- (union either)either;
 - (long)sum:(long)one and:(long)other;
 - (double)half;
 - (long)late;
@@ -36,10 +41,14 @@ static long late(id self, SEL sel) { return 12; }
 @implementation Passing
 static long sum(id self, SEL sel, long one, long other) { return one + other; }
 static double half(id self, SEL sel) { return 0.5; }
+static struct wide wide(id self, SEL sel) { return (struct wide){{1, 2, 3}}; }
 - (void *)forward:(SEL)sel :(void *)frame
 {
     printf("forwarded %s\n", sel_getName(sel));
-    void *function = sel_isEqual(sel, @selector(half)) ? (void *)half : (void *)sum;
+    bool is_wide = sel_isEqual(sel, @selector(wide)) || sel_isEqual(sel, @selector(either));
+    void *function = sel_isEqual(sel, @selector(half)) ? (void *)half
+                     : is_wide                         ? (void *)wide
+                                                       : (void *)sum;
     return __builtin_apply((void (*)())function, frame, 64);
 }
 @end
@@ -61,6 +70,19 @@ static IMP hook(id self, SEL sel)
 {
     return sel_isEqual(sel, @selector(hooked)) ? (IMP)by_hook : NULL;
 }
+static long by_older_hook(id self, SEL sel) { return 14; }
+static IMP older_hook(SEL sel)
+{
+    return sel_isEqual(sel, @selector(hooked)) ? (IMP)by_older_hook : NULL;
+}
+
+static void forward_wide(Target *target)
+{
+    struct wide wide = [target wide];
+    printf("%ld %ld %ld\n", wide.parts[0], wide.parts[1], wide.parts[2]);
+    union either either = [target either];
+    printf("%ld %ld %ld\n", either.parts[0], either.parts[1], either.parts[2]);
+}
 
 int main(void)
 {
@@ -73,7 +95,11 @@ int main(void)
     printf("%ld\n", answer);
     double half = [passing half];
     printf("%g\n", half);
+    forward_wide(passing);
     [asking lost];
+    printf("nothing %g\n", [asking half]);
+    __objc_msg_forward = older_hook;
+    printf("hooked %ld\n", [asking hooked]);
     __objc_msg_forward2 = hook;
     printf("hooked %ld\n", [asking hooked]);
     [asking lost];

@@ -102,6 +102,14 @@ int main(void)
     printf("in construction: sent %ld", send(other, sels[0]));
     method_setImplementation(method, one);
     printf(", then %ld\n", send(other, sels[0]));
+
+    Class later = objc_allocateClassPair(&root, "Later", 0);
+    class_addMethod(later, sels[0], two, "@16@0:8");
+    method_exchangeImplementations(method, class_getInstanceMethod(later, sels[0]));
+    printf("exchanged with one in construction: %ld", send(other, sels[0]));
+    objc_registerClassPair(later);
+    object_setClass(other, later);
+    printf(" %ld\n", send(other, sels[0]));
     object_dispose(object);
     object_dispose(other);
     return 0;

@@ -5,7 +5,7 @@
 #include <stdlib.h>
 #include <string.h>
 
-@interface Box : Object { char mark; id held; int sizes[3]; }
+@interface Box : Object { @public char mark; id held; int sizes[3]; }
 @end
 @implementation Box
 @end
@@ -25,6 +25,7 @@ static void show(Class class_)
     for (unsigned int i = 0; i < count; i++)
         printf("%s %ld %s\n", ivar_getName(list[i]), (long)ivar_getOffset(list[i]),
                ivar_getTypeEncoding(list[i]));
+    if (count && list[count]) printf("the list has no end\n");
     free(list);
 }
 
@@ -38,7 +39,11 @@ int main(void)
     printf("set %d\n", object_setInstanceVariable(object, "held", object) ==
                            class_getInstanceVariable(box, "held"));
     bool found = object_getInstanceVariable(object, "held", &read) != NULL;
-    printf("get %d, %d\n", found, read == object);
+    printf("get %d, %d, where it is %d\n", found, read == object, ((Box *)object)->held == object);
+    printf("the same %d, lost %d, of a metaclass %d\n",
+           object_getIvar(object, class_getInstanceVariable(case_, "held")) == object,
+           object_getInstanceVariable(object, "lost", &read) != NULL,
+           class_getInstanceVariable(((id)case_)->isa, "isa") != NULL);
     object_setIvar(object, class_getInstanceVariable(case_, "held"), nil);
     printf("none %d, unknown %d\n",
            object_getIvar(object, class_getInstanceVariable(case_, "held")) == nil,

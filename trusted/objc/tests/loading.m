@@ -1,5 +1,5 @@
-/* +load: a superclass's first, then a category's, each once, before main; the callback for each
- * class; +initialize: once each, before the first send. */
+/* +load: a superclass's first, then a category's, each once, before main, and no -load; the
+ * callback for each class; +initialize: once each, before the first send. */
 #include "roots.h"
 #include <stdio.h>
 
@@ -13,6 +13,7 @@ static void on_load(Class class_, struct objc_category *category) { called++; }
 @end
 @implementation Lowest
 + (void)load { printf("load Lowest\n"); }
+- (void)load { printf("load an instance of %s\n", object_getClassName((id)self)); }
 + (int)value { printf("value\n"); return 1; }
 @end
 @interface Lowest (More)
@@ -38,5 +39,8 @@ int main(void)
     [Lowest value];
     [Lowest value];
     [Alone nothing];
+    Class lowest = objc_getClass("Lowest"), object = objc_getClass("Object");
+    printf("a metaclass's class is the root's: %d\n",
+           ((id)((id)lowest)->isa)->isa == ((id)((id)object)->isa)->isa);
     return 0;
 }

@@ -1,18 +1,25 @@
-/* Classes made at run time: under a class, as a root, given up, of a name that is taken; and
- * 2,000 of them while another thread sends. */
+/* Classes made at run time: under a class, as a root, given up, of a name that is taken; what is
+ * asked of one in construction; and 2,000 of them while another thread sends. */
 #include "roots.h"
 #include <pthread.h>
 #include <sched.h>
 #include <stdio.h>
+#include <stdlib.h>
 #include <string.h>
 
 @interface Maker : Object
 - (long)number;
 + (const char *)kind;
 @end
+static int initialized;
 @implementation Maker
++ (void)initialize { initialized++; }
 - (long)number { return 1; }
 + (const char *)kind { return "maker"; }
+@end
+
+@protocol Unfinished
+- (void)finish;
 @end
 
 enum { MADE = 2000 };
@@ -49,6 +56,52 @@ static int make_many(Class maker)
     return wrong;
 }
 
+/* It answers, and none of that is its first message. */
+static void ask_unfinished(Class made, Class meta, SEL lacking)
+{
+    int before = initialized;
+    printf("unfinished: %s, as above %d, something to call %d\n", [(Class)made kind],
+           class_getMethodImplementation(made, @selector(number)) ==
+               class_getMethodImplementation(objc_getClass("Maker"), @selector(number)),
+           class_getMethodImplementation(made, lacking) != NULL);
+    printf("has %d %d, lacks %d %d, responds %d, initialized %d\n",
+           class_getInstanceMethod(made, @selector(number)) != NULL,
+           class_getClassMethod(made, @selector(kind)) != NULL,
+           class_getInstanceMethod(made, lacking) == NULL,
+           class_getClassMethod(made, lacking) == NULL,
+           class_respondsToSelector(made, @selector(number)), initialized - before);
+    unsigned int methods, variables;
+    free(class_copyMethodList(meta, &methods));
+    free(class_copyIvarList(made, &variables));
+    printf("lists %u, of variables %u\n", methods, variables);
+}
+
+/* A class is finished or given up by itself, not by its metaclass. What is given up takes all that
+ * it has along, and its name is free again; what is finished stays. */
+static void give_up(Class maker)
+{
+    Class made = objc_allocateClassPair(maker, "Unfinished", 0), meta = ((id)made)->isa;
+    class_addMethod(meta, @selector(kind), (IMP)kind, "*16@0:8");
+    class_addMethod(made, @selector(kind), (IMP)kind, "*16@0:8");
+    class_addMethod(made, sel_registerName("another"), (IMP)two, "l16@0:8");
+    class_addIvar(made, "letter", 1, 0, "c");
+    class_addIvar(made, "other", 1, 0, "c");
+    class_addProtocol(made, @protocol(Unfinished));
+    ask_unfinished(made, meta, sel_registerName("lacking"));
+    objc_registerClassPair(meta);
+    objc_disposeClassPair(meta);
+    printf("by its metaclass: %d, ", objc_getClass("Unfinished") != NULL);
+    printf("an instance's %d\n", class_conformsToProtocol(made, @protocol(Unfinished)));
+    objc_disposeClassPair(made);
+    made = objc_allocateClassPair(maker, "Unfinished", 0);
+    for (int time = 0; time < 2; time++) objc_registerClassPair(made);
+    objc_disposeClassPair(made);
+    int before = initialized;
+    printf("finished: %d, %s, ", objc_getClass("Unfinished") == made, [(Class)made kind]);
+    printf("initialized %d, the metaclass's %d\n", initialized - before,
+           ((id)((id)made)->isa)->isa == ((id)((id)objc_getClass("Object"))->isa)->isa);
+}
+
 int main(void)
 {
     Class maker = objc_getClass("Maker");
@@ -68,6 +121,7 @@ int main(void)
            objc_getClassList(NULL, 0) - before);
     objc_disposeClassPair(objc_allocateClassPair(maker, "Given up", 0));
     printf("given up: %d\n", objc_getClass("Given up") == NULL);
+    give_up(maker);
     Class root = objc_allocateClassPair(NULL, "Rooted", 0);
     class_addMethod(root, @selector(number), (IMP)two, "l16@0:8");
     objc_registerClassPair(root);

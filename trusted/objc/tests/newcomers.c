@@ -1,5 +1,7 @@
-/* Threads that allocate and never sent are interrupted: the first send of each is in a handler of a
- * signal, inside malloc, of a message that others have sent. There are no changes and no forks. */
+/* Threads that allocate and never sent are interrupted: each send of theirs is in a handler of a
+ * signal, inside malloc, of a message that others have sent. Some send once, and some a hundred
+ * times. No sender is spare: threads that don't end have those. There are no changes and no forks.
+ */
 #define _GNU_SOURCE
 #include "places.h"
 #include <pthread.h>
@@ -7,10 +9,10 @@
 #include <signal.h>
 #include <stdlib.h>
 
-enum { THREADS = 500, BLOCKS = 64, PATIENCE = 100 };
+enum { THREADS = 500, BLOCKS = 64, STAYING = 4, OFTEN = 100, EACH = 25, PATIENCE = 30 };
 
-static long handled, wrong, begun;
-static _Thread_local volatile int mine;
+static long handled, wrong, begun, stayed;
+static _Thread_local volatile long mine;
 static id object;
 static SEL first;
 
@@ -19,15 +21,24 @@ static void handle(int signal)
     (void)signal;
     wrong += send(object, first) != 11;
     count(&handled);
-    mine = 1;
+    mine++;
 }
 
-static void *allocate(void *none)
+static void *stay(void *unused)
+{
+    (void)unused;
+    send(object, first);
+    count(&stayed);
+    for (;;) pause();
+    return NULL;
+}
+
+static void *allocate(void *times)
 {
     void *blocks[BLOCKS] = {0};
     unsigned random = 1;
     long rounds = 0;
-    while (!mine) {
+    while (mine < *(const long *)times) {
         random = random * 1664525 + 1013904223;
         void **block = &blocks[random / (UINT32_MAX / BLOCKS + 1)];
         free(*block);
@@ -35,7 +46,18 @@ static void *allocate(void *none)
         if (!rounds++) count(&begun);
     }
     for (int i = 0; i < BLOCKS; i++) free(blocks[i]);
-    return none;
+    return NULL;
+}
+
+/* Interrupts the thread until it has sent as often as it wants to. */
+static void interrupt(pthread_t thread)
+{
+    double last = now() + PATIENCE;
+    while (pthread_tryjoin_np(thread, NULL)) {
+        if (now() > last) end("a thread is stuck in its handler\n");
+        pthread_kill(thread, SIGUSR1);
+        usleep(200);
+    }
 }
 
 int main(void)
@@ -45,17 +67,20 @@ int main(void)
     object = class_createInstance(&child, 0);
     send(object, first);
     signal(SIGUSR1, handle);
+    for (long i = 0; i < STAYING; i++) {
+        pthread_t thread;
+        pthread_create(&thread, NULL, stay, NULL);
+        while (get(&stayed) == i) sched_yield();
+    }
     for (long i = 0; i < THREADS; i++) {
         pthread_t thread;
-        struct timespec until;
-        pthread_create(&thread, NULL, allocate, NULL);
+        long times = i % EACH ? 1 : OFTEN;
+        pthread_create(&thread, NULL, allocate, &times);
         while (get(&begun) == i) sched_yield();
         usleep(100 + (unsigned)i % 50);
-        pthread_kill(thread, SIGUSR1);
-        clock_gettime(CLOCK_REALTIME, &until);
-        until.tv_sec += PATIENCE;
-        if (pthread_timedjoin_np(thread, NULL, &until)) end("a thread is stuck in its handler\n");
+        interrupt(thread);
     }
-    printf("handled %ld, wrong %ld\n", handled, wrong);
+    bool is_all = handled >= THREADS + THREADS / EACH * (OFTEN - 1);
+    printf("%s handled, wrong %ld\n", is_all ? "all" : "not all", wrong);
     return 0;
 }

@@ -92,9 +92,11 @@ static void tell_selectors(void)
     printf("%d\n", sel_get_any_uid("typed") == newest);
     struct objc_selector empty = {{0}, NULL}, text = {{.text = "typed"}, NULL},
                          far = {{.key = UINTPTR_MAX}, NULL};
-    printf("selectors %d %d, not %d %d %d\n", sel_is_mapped(newest),
-           sel_is_mapped(sel_registerName("else")), sel_is_mapped(&empty), sel_is_mapped(&text),
-           sel_is_mapped(&far));
+    SEL later = sel_registerName("else");
+    /* of a number that no name has yet */
+    struct objc_selector next = {{.key = 1000 * later->name.key - 999 * newest->name.key}, NULL};
+    printf("selectors %d %d, not %d %d %d %d\n", sel_is_mapped(newest), sel_is_mapped(later),
+           sel_is_mapped(&empty), sel_is_mapped(&text), sel_is_mapped(&far), sel_is_mapped(&next));
 }
 
 static void tell_classes(Class object)

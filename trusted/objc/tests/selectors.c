@@ -13,9 +13,15 @@ int main(void)
            sel_registerTypedName("turn:", "v12@0:4i8") == left);
     SEL other = sel_registerTypedName("turn:", "v24@0:8@16");
     unsigned int count;
-    free(sel_copyTypedSelectorList("turn:", &count));
+    SEL *list = sel_copyTypedSelectorList("turn:", &count);
     printf("another %d, now none is the typed one %d, %u in all\n", other != left,
            sel_getTypedSelector("turn:") == NULL, count);
+    printf("the newest first: %d%d%d, and then nothing %d\n", list[0] == other, list[1] == left,
+           list[2] == plain, !list[3]);
+    free(list);
+    left = sel_registerTypedName("turn:", "v20@0:8{a=i}16");
+    other = sel_registerTypedName("turn:", "v20@0:8{a=s}16");
+    printf("of another structure: another %d\n", other != left);
     printf("unknown: %d %d\n", sel_getTypedSelector("unheard") == NULL,
            sel_copyTypedSelectorList("unheard", &count) == NULL && count == 0);
     printf("NULL: %s %d %d %d\n", sel_getName(NULL), sel_registerName(NULL) == NULL,

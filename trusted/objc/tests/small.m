@@ -41,6 +41,7 @@ static void tell_locks(void)
     objc_mutex_lock(mutex);
     printf("held twice: %d\n", objc_mutex_deallocate(mutex));
     printf("none: %d\n", objc_mutex_deallocate(NULL));
+    objc_thread_add(); /* without a callback */
 }
 
 static void tell_layout(void)

@@ -10,6 +10,7 @@
 #include <stdio.h>
 #include <stdlib.h>
 #include <sys/wait.h>
+#include <time.h>
 #include <unistd.h>
 
 enum { ROOT, CHILD, UNMADE, CLASSES, SENDERS = 3 };
@@ -74,8 +75,17 @@ static void texts(void)
          1000000 * MSG_VERSION_MAJOR + 1000 * MSG_VERSION_MINOR + MSG_VERSION_PATCH);
 }
 
+/* As soon as it is told anything but that, the words are there. */
+static void *find_from_before(void *none)
+{
+    while (find(ROOT, false, ONE) == 1000 + MSG_CLOSED) sched_yield();
+    WANT(__atomic_load_n(&msg_process_words.at, __ATOMIC_RELAXED) != &msg_process_words.none, 1);
+    return none;
+}
+
 static void before_start(void)
 {
+    pthread_t thread;
     WANT(find(ROOT, false, ONE), 1000 + MSG_CLOSED);
     WANT(find_at_once(ROOT, false, ONE), 1000 + MSG_CLOSED);
     WANT(msg_process_lock(&runtime), MSG_CLOSED);
@@ -83,7 +93,10 @@ static void before_start(void)
     msg_process_unlock();
     WANT(msg_process_start(&(msg_config){.classes = 1048577}), MSG_BAD_CONFIG);
     WANT(find(ROOT, false, ONE), 1000 + MSG_CLOSED);
+    pthread_create(&thread, NULL, find_from_before, NULL);
+    usleep(1000);
     WANT(msg_process_start(&(msg_config){.classes = CLASSES, .senders = SENDERS}), MSG_DONE);
+    pthread_join(thread, NULL);
     WANT(msg_process_start(NULL), MSG_ALREADY_OPEN);
     WANT(msg_process_start(&(msg_config){.classes = 1048577}), MSG_ALREADY_OPEN);
 }
@@ -266,6 +279,69 @@ static void *hold(void *none)
     return none;
 }
 
+enum { SECOND = 1000, MOMENT = 100, TRIES = 5 }; /* in milliseconds, but for the last */
+
+static long now(void)
+{
+    struct timespec at;
+    clock_gettime(CLOCK_MONOTONIC, &at);
+    return at.tv_sec * 1000 + at.tv_nsec / 1000000;
+}
+
+/* How long a find takes that can't have the lock, at the best: other programs may slow it down. */
+static long time_without(void *(*find_in_vain)(void *), long enough)
+{
+    long least = LONG_MAX;
+    for (int i = 0; i < TRIES && least >= enough; i++) {
+        pthread_t thread;
+        long begin = now();
+        pthread_create(&thread, NULL, find_in_vain, NULL);
+        pthread_join(thread, NULL);
+        if (now() - begin < least) least = now() - begin;
+    }
+    return least;
+}
+
+static void *in_vain_at_once(void *none)
+{
+    WANT(find_at_once(CHILD, true, TWO + 1002), 1000 + MSG_LOCK_HELD);
+    return none;
+}
+
+static uint32_t find_for_a_while(uint32_t sel)
+{
+    uint32_t imp;
+    return msg_process_find_slowly(msg_key(msg_slot(CHILD, true), sel), MSG_WAITS_A_WHILE, &imp);
+}
+
+/* A thread's first find, which wants the lock for its sender and then for what it finds. */
+static void *in_vain_for_a_while(void *none)
+{
+    WANT(find_for_a_while(TWO + 1002), MSG_LOCK_HELD);
+    return none;
+}
+
+static void *hold_for_a_moment(void *none)
+{
+    msg_runtime *held;
+    WANT(msg_process_lock(&held), MSG_DONE);
+    pthread_barrier_wait(&is_locked);
+    usleep(1000 * MOMENT);
+    msg_process_unlock();
+    return none;
+}
+
+static void for_a_while(void)
+{
+    pthread_t thread;
+    pthread_create(&thread, NULL, hold_for_a_moment, NULL);
+    pthread_barrier_wait(&is_locked);
+    WANT(find_for_a_while(TWO + 1003), MSG_DONE);
+    pthread_join(thread, NULL);
+    WANT(msg_process_lock(&runtime), MSG_DONE);
+    msg_process_unlock();
+}
+
 /* While another thread has the lock: what is noted is found, and nothing waited for. */
 static void at_once(void)
 {
@@ -279,9 +355,12 @@ static void at_once(void)
     pthread_barrier_wait(&is_locked);
     WANT(find_at_once(CHILD, false, ONE), 15);
     WANT(find_at_once(CHILD, true, TWO + 1002), 1000 + MSG_LOCK_HELD);
+    WANT(time_without(in_vain_at_once, SECOND / 2) < SECOND / 2, 1);
+    WANT(time_without(in_vain_for_a_while, 2 * SECOND) / SECOND, 1);
     pthread_barrier_wait(&is_asked);
     pthread_join(thread, NULL);
     WANT(find_at_once(CHILD, true, TWO + 1002), 0);
+    for_a_while();
 }
 
 /* In a thread that hasn't found before, it takes no memory, and so no sender; nor does it stand

@@ -300,10 +300,9 @@ static void try(void)
     msg_process_unlock();
 }
 
-/* The layer keeps the sender: to close it clears all of its notes, word by word. */
+/* The layer keeps the sender (MSG_SPARES): to close it clears its notes, word by word. */
 static void try_ends(void)
 {
-    msg_process_spare();
     act = ENDS;
     for (state = NOTED; state <= AWAY; state++) try();
 }

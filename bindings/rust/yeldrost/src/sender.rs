@@ -1,5 +1,5 @@
 use crate::{ClassRef, Fault, Imp, Refused, Selector, Shared};
-use std::alloc::{alloc_zeroed, handle_alloc_error, Layout};
+use std::alloc::{alloc_zeroed, Layout};
 use std::sync::Arc;
 use yeldrost_sys as sys;
 
@@ -39,7 +39,7 @@ unsafe impl Send for Sender {}
 // given with, whose words lie there since the sender is open, and the runtime's handle is under its lock.
 impl Sender {
     pub(crate) fn of(shared: &Arc<Shared>) -> Result<Sender, Fault> {
-        let mut raw = closed();
+        let mut raw = closed()?;
         Fault::of(unsafe { sys::msg_sender_open(&mut shared.held().0, &mut *raw) })?;
         Ok(Sender {
             raw,
@@ -196,14 +196,14 @@ fn row(of: ClassRef, selector: Selector) -> sys::msg_lookup_row {
 }
 
 /// A closed sender, made in place: 512 KiB would be much of a small stack.
-fn closed() -> Box<sys::msg_sender> {
+fn closed() -> Result<Box<sys::msg_sender>, Fault> {
     let layout = Layout::new::<sys::msg_sender>();
     // SAFETY: zero bytes are a closed sender, and the layout is that of the box.
     unsafe {
         let at = alloc_zeroed(layout);
         if at.is_null() {
-            handle_alloc_error(layout)
+            return Err(Fault::NoMemory);
         }
-        Box::from_raw(at.cast())
+        Ok(Box::from_raw(at.cast()))
     }
 }

@@ -310,8 +310,12 @@ fn senders() {
     assert_eq!(Ok(Some(i(4))), sender.find(CHILD_ITSELF, s(NEW)));
     assert_eq!(Ok(None), sender.find(CHILDREN, s(TAKE)));
     assert_eq!(Ok(Probed::NoMethod), sender.probe(CHILDREN, s(TAKE)));
+    assert!(sender.recalls_none(CHILDREN, s(TAKE)));
+    assert!(sender.stamp(CHILDREN).unwrap() <= 4);
     runtime.lock().replace(CHILDREN, s(VALUE), i(5)).unwrap();
     assert_eq!(None, sender.recall(CHILDREN, s(VALUE)));
+    assert!(!sender.recalls_none(CHILDREN, s(TAKE)));
+    assert_eq!(Ok(u64::MAX), sender.stamp(CHILDREN));
     assert_eq!(Ok(Some(i(5))), sender.find(CHILDREN, s(VALUE)));
     runtime.lock().replace(CHILDREN, s(VALUE), i(6)).unwrap();
     assert_eq!(Ok(6), sender.refresh());

@@ -1,4 +1,5 @@
-"""A host in Python: the same library, shared, by ctypes. The interpreter's lock is the runtime lock (ctypes.PyDLL keeps it in a call)."""
+"""A host in Python: the same library, shared, by ctypes. The interpreter's lock is the runtime lock
+(ctypes.PyDLL keeps it in a call)."""
 import ctypes as c
 import sys
 
@@ -31,10 +32,12 @@ class Fault(Exception):
 
 
 class Runtime:
-    """Names are kept here: the library knows numbers alone, classes from 0, selectors and implementations from 1."""
+    """Names are kept here: the library knows numbers alone, classes from 0, selectors and
+    implementations from 1."""
 
     def __init__(self, classes=0):
-        self.handle, self.classes, self.selectors, self.bodies = Handle(), {}, {}, [lambda side: "forwarded"]
+        self.handle, self.classes, self.selectors = Handle(), {}, {}
+        self.bodies = [lambda side: "forwarded"]
         self.ask(library.msg_open_words, (number * 1)(classes), 1)
 
     def ask(self, call, *words):
@@ -55,16 +58,18 @@ class Runtime:
             self.ask(library.msg_make_root_class, made)
         else:
             self.ask(library.msg_make_class, made, self.classes[superclass])
-        rows = (Method * len(methods))(*((self.selector(sel), self.implementation(body)) for sel, body in methods.items()))
+        rows = [(self.selector(it), self.implementation(body)) for it, body in methods.items()]
+        rows = (Method * len(rows))(*rows)
         self.ask(library.msg_attach, made, rows, len(rows), rows, 0)
 
     def send(self, receiver, name, class_name):
-        imp = number()
-        self.ask(library.msg_lookup, self.classes[class_name], False, self.selector(name), c.byref(imp))
+        imp, class_ = number(), self.classes[class_name]
+        self.ask(library.msg_lookup, class_, False, self.selector(name), c.byref(imp))
         return self.bodies[imp.value](receiver)
 
     def replace(self, class_name, name, body):
-        self.ask(library.msg_replace, self.classes[class_name], False, self.selector(name), self.implementation(body) if body else 0)
+        imp, class_ = self.implementation(body) if body else 0, self.classes[class_name]
+        self.ask(library.msg_replace, class_, False, self.selector(name), imp)
 
     def close(self):
         self.ask(library.msg_close)

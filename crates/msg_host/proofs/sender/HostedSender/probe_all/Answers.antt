@@ -1,10 +1,11 @@
-use Rattle.std.proofs.Common.{◌≡◌, ◌<◌, ◌∙◌, ℕ, List, All, true, false, subst}
+use Rattle.std.proofs.Common.{◌≡◌, ◌<◌, ◌∙◌, ℕ, List, All, true, false, ap, length, subst}
 use Rattle.msg_cache.specs.Views.{classes}
+use Rattle.msg_reader.specs.Cost.{ProbesAtMost}
 use Rattle.msg_reader.specs.Several.{AreNoted, KeepOthersOfAll, LackOne, MissOne}
 use Rattle.msg_reader.specs.declared.lookup.Lookup.{Lookup}
 use Rattle.msg_host.specs.Lookups.{AreRowsFoundAt, lookups_in}
 use Rattle.msg_host.specs.declared.lookups.LookupRow.{LookupRow}
-use Rattle.msg_host.proofs.LookupLemmas.{asked-classes, found-rows}
+use Rattle.msg_host.proofs.LookupLemmas.{as_many, asked-classes, found-rows}
 use Rattle.msg_host.proofs.sender.HostedSender.probe_all.Goals as goal
 
 pub try_find_all-requires-clause-asked : goal.try_find_all-requires-clause-asked
@@ -53,3 +54,9 @@ returns-clause-others c =
     let many : list.classes ≡ classes a = c.in_ok-lookups.ensures.rows.1 ∙ c.class_count.ensures in
     let of-arena = subst (λ (n : ℕ). KeepOthersOfAll c.args.notes.now c.try_find_all.new.notes (lookups_in n list.rows.now)) many c.try_find_all.ensures.others in
     subst (λ (rows : List LookupRow). KeepOthersOfAll c.args.notes.now c.try_find_all.new.notes (lookups_in (classes a) rows)) c.in_ok-lookups.ensures.rows.0 of-arena
+
+pub returns-clause-probed : goal.returns-clause-probed
+returns-clause-probed c =
+    let list = c.in_ok-lookups.lookups in
+    let many = as_many list.classes list.rows.now ∙ ap (λ (rows : List LookupRow). length rows) c.in_ok-lookups.ensures.rows.0 in
+    subst (λ (n : ℕ). ProbesAtMost n c.args.self.now.seen c.try_find_all.new.self.seen) many c.try_find_all.ensures.probed

@@ -1,7 +1,9 @@
 use Rattle.std.proofs.Common.{◌<◌, ◌^◌, ap, subst, ◌∙◌, arith}
 use Rattle.msg_names.specs.ClassRef.{slot_of}
+use Rattle.msg_names.specs.Number.{selector_number}
 use Rattle.msg_cache.specs.Views.{ArenaView, classes, layout}
 use Rattle.msg_reader.specs.Notes.{StayStamped}
+use Rattle.msg_reader.specs.Cost.{ProbesOnceAtMost}
 use Rattle.msg_reader.specs.Kept.{IsNotedFound}
 use Rattle.msg_reader.proofs.ReaderLemmas.{if_some}
 use Rattle.msg_host.specs.Named.{HaveNotedLast}
@@ -20,3 +22,9 @@ returns-clause-noted c =
 pub returns-clause-stamped : goal.returns-clause-stamped
 returns-clause-stamped c =
     subst (λ (a : ArenaView). StayStamped (layout a) c.args.notes.now c.try_find_counted.new.notes) (c.deref.ensures ∙ ap (λ (v : SenderView). v.arena) c.self.view_is) c.try_find_counted.ensures.stamped
+
+pub returns-clause-probed : goal.returns-clause-probed
+returns-clause-probed c =
+    let at : ArenaView = c.args.self.now.arena in
+    let here = subst (λ (a : ArenaView). ProbesOnceAtMost a c.args.class (selector_number c.args.sel) c.self.inside.reader.sender c.try_find_counted.new.self.sender) (c.deref.ensures ∙ ap (λ (v : SenderView). v.arena) c.self.view_is) c.try_find_counted.ensures.probed in
+    subst (λ (v : SenderView). ProbesOnceAtMost at c.args.class (selector_number c.args.sel) v.seen c.try_find_counted.new.self.sender) c.self.view_is here

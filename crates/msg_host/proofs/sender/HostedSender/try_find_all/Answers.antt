@@ -1,5 +1,6 @@
-use Rattle.std.proofs.Common.{◌≡◌, ap, subst, sym, ◌∙◌}
+use Rattle.std.proofs.Common.{◌≡◌, ap, length, subst, sym, ◌∙◌}
 use Rattle.msg_cache.specs.Views.{ArenaView, layout}
+use Rattle.msg_reader.specs.Cost.{ProbesAtMost}
 use Rattle.msg_reader.specs.Notes.{StayStamped}
 use Rattle.msg_reader.specs.Several.{AreNoted, LackOne, MissOne}
 use Rattle.msg_host.specs.View.{SenderView}
@@ -29,3 +30,7 @@ pub returns-clause-noted : goal.returns-clause-noted
 returns-clause-noted g c = λ is.
     let noted = c.try_find_all.ensures.noted (sym c.is_some.ensures ∙ is) in
     subst (λ (v : SenderView). AreNoted c.try_find_all.new.notes v.seen c.try_find_all.new.self.sender (g.L.LookupList.lookups c.args.lookups.now) c.try_find_all.new.imps) c.self.view_is noted
+
+pub returns-clause-probed : goal.returns-clause-probed
+returns-clause-probed g c =
+    subst (λ (v : SenderView). ProbesAtMost (length (g.L.LookupList.lookups c.args.lookups.now)) v.seen c.try_find_all.new.self.sender) c.self.view_is c.try_find_all.ensures.probed

@@ -1,8 +1,8 @@
-use Rattle.std.proofs.Common.{length, sym}
+use Rattle.std.proofs.Common.{inl, length, sym}
 use Rattle.msg_names.specs.Number.{selector_number, imp_number}
 use Rattle.std.specs.Prelude.{option_map}
 use Rattle.msg_reader.specs.Kept.{MissesUnlessChanged}
-use Rattle.msg_reader.proofs.ReaderLemmas.{as_long, found_later, found_noted, has_loaded, if_none, missed_before}
+use Rattle.msg_reader.proofs.ReaderLemmas.{as_long, found_later, found_noted, has_loaded, if_none, missed_before, one_after, stamp_is_no_probe}
 use Rattle.msg_reader.proofs.reader.Reader.try_find.Goals as goal
 
 pub try_find_cached-requires-clause-notes : goal.try_find_cached-requires-clause-notes
@@ -49,3 +49,11 @@ returns-in-None-clause-missed c =
     let saw = c.stamp-since.new.self.sender in
     let is = c.try_find_cached.new.self.sender in
     if_none (MissesUnlessChanged a c.args.class sel saw is) (MissesUnlessChanged a c.args.class sel was is) c.try_find_cached.result (missed_before a c.args.class sel (length was.front.changes) (length saw.front.changes) is (as_long saw.front was.front c.stamp-since.ensures.begins)) c.try_find_cached.ensures.missed
+
+pub returns-in-Some-clause-probed : goal.returns-in-Some-clause-probed
+returns-in-Some-clause-probed c = inl (stamp_is_no_probe c.args.class c.stamp-since.result c.args.self.now.sender c.stamp-since.new.self.sender c.stamp-since.ensures.loaded)
+
+pub returns-in-None-clause-probed : goal.returns-in-None-clause-probed
+returns-in-None-clause-probed c =
+    one_after c.args.arena.now c.args.class (selector_number c.args.sel) c.args.self.now.sender c.stamp-since.new.self.sender c.try_find_cached.new.self.sender
+    (stamp_is_no_probe c.args.class c.stamp-since.result c.args.self.now.sender c.stamp-since.new.self.sender c.stamp-since.ensures.loaded) c.try_find_cached.ensures.probed

@@ -93,3 +93,12 @@ returns-in-None-clause-noted c =
     let loaded : LoadsAmong c.args.lookup.class since c.args.self.now.sender c.try_find_at.new.self.sender = (more, [], is ∙ ap (λ (l : List (ClassRef × ℕ)). more ++ l) stamped) in
     if_some (IsKeptAt c.args.count c.try_find_at.new.notes c.args.lookup.class c.args.lookup.sel) (λ i. IsNotedAmong c.try_find_at.new.notes c.args.self.now.sender c.try_find_at.new.self.sender c.args.lookup (imp_number i))
     c.try_find_at.result (λ i kept. (since, loaded, kept since (omega (arith, c.if-count-since.false)))) c.try_find_at.ensures.kept
+
+pub returns-then-count-since-clause-probed : goal.returns-then-count-since-clause-probed
+returns-then-count-since-clause-probed c = omega (arith, ap (λ (u : SenderView). u.count) c.stamp-since.ensures.loaded)
+
+pub returns-in-Some-clause-probed : goal.returns-in-Some-clause-probed
+returns-in-Some-clause-probed c = omega (arith, ap (λ (u : SenderView). u.count) c.stamp-since.ensures.loaded)
+
+pub returns-in-None-clause-probed : goal.returns-in-None-clause-probed
+returns-in-None-clause-probed c = omega (arith, c.try_find_at.ensures.probed.0, ap (λ (u : SenderView). u.count) c.stamp-since.ensures.loaded)

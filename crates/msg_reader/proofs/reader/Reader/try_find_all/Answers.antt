@@ -17,6 +17,8 @@ loop-place-init g c = record {
   room = refl;
   found = refl;
   stamps = ([], c.refresh-count.ensures.stamps);
+  most = omega arith;
+  probed = omega (arith, c.refresh-count.ensures.no_probe.0);
   looks = c.refresh-count.ensures.looked;
   others = λ place none. (refl, refl);
   noted = λ place k i lt. absurd (omega (arith, lt));
@@ -64,6 +66,8 @@ loop-place-preserved g c =
       room = length-set c.loop-place.imps place c.number.result ∙ c.loop-place.invariant.room;
       found = found_next start ks c.loop-place.imps place k c.number.result inside c.get-lookup.ensures is c.loop-place.invariant.found;
       stamps = more_more v u w c.loop-place.invariant.stamps c.try_find_after.ensures.stamps;
+      most = omega (arith, c.loop-place-test.true, c.len-place-end.ensures.count);
+      probed = omega (arith, c.try_find_after.ensures.probed, c.loop-place.invariant.probed);
       looks = c.try_find_after.ensures.looks ∙ c.loop-place.invariant.looks;
       others = λ p none. stay_on c.args.notes.now c.loop-place.notes c.try_find_after.new.notes p (c.loop-place.invariant.others p none) (c.try_find_after.ensures.others p (none k (place, c.get-lookup.ensures)));
       noted = noted_next (IsNotedAmong c.loop-place.notes v u) (IsNotedAmong c.try_find_after.new.notes v w) ks c.loop-place.imps place k c.number.result c.get-lookup.ensures
@@ -82,3 +86,9 @@ pub returns-in_default-clause-others : goal.returns-in_default-clause-others
 returns-in_default-clause-others g c = λ p none.
     stay_on c.args.notes.now c.loop-place.notes c.try_find_after.new.notes p (c.loop-place.invariant.others p none)
     (c.try_find_after.ensures.others p (none c.get-lookup.result (c.loop-place.place, c.get-lookup.ensures)))
+
+pub returns-in_default-clause-probed : goal.returns-in_default-clause-probed
+returns-in_default-clause-probed g c = omega (arith, c.try_find_after.ensures.probed, c.loop-place.invariant.probed, c.loop-place-test.true, c.len-place-end.ensures.count)
+
+pub returns-clause-probed : goal.returns-clause-probed
+returns-clause-probed g c = omega (arith, c.loop-place.invariant.probed, c.loop-place.invariant.most)

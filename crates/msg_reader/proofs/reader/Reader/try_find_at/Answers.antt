@@ -9,7 +9,7 @@ use Rattle.msg_model.proofs.StampLemmas.{longer-stays, since as stays-since}
 use Rattle.msg_cache.specs.Record.{Misses}
 use Rattle.msg_cache.specs.Views.{layout}
 use Rattle.msg_reader.specs.Kept.{MissesAfter}
-use Rattle.msg_reader.proofs.ReaderLemmas.{anyway, as_long, has_loaded, stamps_are}
+use Rattle.msg_reader.proofs.ReaderLemmas.{anyway, as_long, has_loaded, one_probe, stamps_are, still_one}
 use Rattle.msg_reader.proofs.reader.Reader.try_find_at.Goals as goal
 
 pub returns-in_err-imp-clause-notes : goal.returns-in_err-imp-clause-notes
@@ -107,3 +107,16 @@ returns-clause-noted c = (
   has_loaded c.args.class c.stamp-after.result c.probe.new.self.sender c.stamp-after.new.self.sender c.stamp-after.ensures.loaded,
   λ short. c.keep.ensures.kept c.stamp-after.result (omega (arith, c.if-count-after.false)) short,
 )
+
+pub returns-in_err-imp-clause-probed : goal.returns-in_err-imp-clause-probed
+returns-in_err-imp-clause-probed c = one_probe c.args.arena.now c.args.class c.args.sel c.args.self.now.sender c.probe.new.self.sender c.probe.ensures.probes
+
+pub returns-then-count-after-clause-probed : goal.returns-then-count-after-clause-probed
+returns-then-count-after-clause-probed c =
+    still_one c.args.arena.now c.args.class c.args.class (selector_number c.args.sel) c.stamp-after.result c.args.self.now.sender c.probe.new.self.sender c.stamp-after.new.self.sender c.stamp-after.ensures.loaded
+    (one_probe c.args.arena.now c.args.class c.args.sel c.args.self.now.sender c.probe.new.self.sender c.probe.ensures.probes)
+
+pub returns-clause-probed : goal.returns-clause-probed
+returns-clause-probed c =
+    still_one c.args.arena.now c.args.class c.args.class (selector_number c.args.sel) c.stamp-after.result c.args.self.now.sender c.probe.new.self.sender c.stamp-after.new.self.sender c.stamp-after.ensures.loaded
+    (one_probe c.args.arena.now c.args.class c.args.sel c.args.self.now.sender c.probe.new.self.sender c.probe.ensures.probes)

@@ -1,7 +1,7 @@
-use Rattle.std.proofs.Common.{[], length, ◌∙◌, inr, arith}
+use Rattle.std.proofs.Common.{[], length, ◌∙◌, inl, inr, arith}
 use Rattle.msg_names.specs.Number.{selector_number}
 use Rattle.msg_reader.specs.Kept.{MissesAfter, MissesUnlessChanged}
-use Rattle.msg_reader.proofs.ReaderLemmas.{as_long, if_none, loads_more, missed_before}
+use Rattle.msg_reader.proofs.ReaderLemmas.{as_long, if_none, loads_more, missed_before, one_after}
 use Rattle.msg_reader.proofs.reader.Reader.try_find_cached.Goals as goal
 
 pub try_find_at-requires-clause-notes : goal.try_find_at-requires-clause-notes
@@ -37,3 +37,10 @@ returns-clause-missed c =
     let is = c.try_find_at.new.self.sender in
     if_none (MissesAfter a c.args.class sel c.refresh-count.result is) (MissesUnlessChanged a c.args.class sel was is) c.try_find_at.result
     (missed_before a c.args.class sel (length was.front.changes) c.refresh-count.result is (omega (arith, as_long saw.front was.front c.refresh-count.ensures.begins, c.refresh-count.ensures.length))) c.try_find_at.ensures.missed
+
+pub returns-then-count-since-clause-probed : goal.returns-then-count-since-clause-probed
+returns-then-count-since-clause-probed c = inl c.refresh-count.ensures.no_probe
+
+pub returns-clause-probed : goal.returns-clause-probed
+returns-clause-probed c =
+    one_after c.args.arena.now c.args.class (selector_number c.args.sel) c.args.self.now.sender c.refresh-count.new.self.sender c.try_find_at.new.self.sender c.refresh-count.ensures.no_probe (inr c.try_find_at.ensures.probed)

@@ -1,10 +1,11 @@
-use Rattle.std.proofs.Common.{◌≡◌, ◌≤◌, ◌∙◌, ℕ, sym, inr, length, arith}
+use Rattle.std.proofs.Common.{◌≡◌, ◌≤◌, ◌∙◌, ℕ, sym, inl, inr, length, arith}
 use Rattle.msg_names.specs.Number.{selector_number, imp_number}
 use Rattle.msg_tables.specs.History.{lookup}
 use Rattle.msg_model.specs.Stamps.{last_affected}
 use Rattle.msg_model.specs.State.{first}
 use Rattle.msg_model.proofs.StampLemmas.{since as stays-since}
-use Rattle.msg_reader.proofs.ReaderLemmas.{as_long, found_unprobed, has_loaded}
+use Rattle.msg_reader.specs.Kept.{MissesAfter, MissesUnlessChanged}
+use Rattle.msg_reader.proofs.ReaderLemmas.{as_long, found_unprobed, has_loaded, if_none, missed_before, no_probe_yet, one_after, stamp_is_no_probe}
 use Rattle.msg_reader.proofs.reader.Reader.try_find_counted.Goals as goal
 
 pub try_find_at-requires-clause-notes : goal.try_find_at-requires-clause-notes
@@ -104,3 +105,30 @@ returns-in-None-clause-missed c =
       has_loaded c.args.class c.stamp-since.result c.refresh-count.new.self.sender c.stamp-since.new.self.sender c.stamp-since.ensures.loaded,
       omega (arith, as_long c.refresh-count.new.self.sender.front c.args.self.now.sender.front c.refresh-count.ensures.begins, c.refresh-count.ensures.length, c.if-count-since.true),
     )
+
+pub returns-then-since-count-clause-probed : goal.returns-then-since-count-clause-probed
+returns-then-since-count-clause-probed c = inl (no_probe_yet c.args.self.now.sender c.refresh-count.new.self.sender c.stamp-since.new.self.sender c.refresh-count.ensures.no_probe
+    (stamp_is_no_probe c.args.class c.stamp-since.result c.refresh-count.new.self.sender c.stamp-since.new.self.sender c.stamp-since.ensures.loaded))
+
+pub returns-else-since-count-clause-probed : goal.returns-else-since-count-clause-probed
+returns-else-since-count-clause-probed c = inl (no_probe_yet c.args.self.now.sender c.refresh-count.new.self.sender c.stamp-since.new.self.sender c.refresh-count.ensures.no_probe
+    (stamp_is_no_probe c.args.class c.stamp-since.result c.refresh-count.new.self.sender c.stamp-since.new.self.sender c.stamp-since.ensures.loaded))
+
+pub returns-in-None-clause-probed : goal.returns-in-None-clause-probed
+returns-in-None-clause-probed c = inl (no_probe_yet c.args.self.now.sender c.refresh-count.new.self.sender c.stamp-since.new.self.sender c.refresh-count.ensures.no_probe
+    (stamp_is_no_probe c.args.class c.stamp-since.result c.refresh-count.new.self.sender c.stamp-since.new.self.sender c.stamp-since.ensures.loaded))
+
+pub returns-in-None-2-clause-probed : goal.returns-in-None-2-clause-probed
+returns-in-None-2-clause-probed c =
+    one_after c.args.arena.now c.args.class (selector_number c.args.sel) c.args.self.now.sender c.stamp-since.new.self.sender c.try_find_at.new.self.sender (no_probe_yet c.args.self.now.sender c.refresh-count.new.self.sender c.stamp-since.new.self.sender c.refresh-count.ensures.no_probe
+    (stamp_is_no_probe c.args.class c.stamp-since.result c.refresh-count.new.self.sender c.stamp-since.new.self.sender c.stamp-since.ensures.loaded)) (inr c.try_find_at.ensures.probed)
+
+pub returns-in-None-2-clause-missed : goal.returns-in-None-2-clause-missed
+returns-in-None-2-clause-missed c =
+    let a = c.args.arena.now in
+    let sel = selector_number c.args.sel in
+    let was = c.args.self.now.sender in
+    let saw = c.refresh-count.new.self.sender in
+    let is = c.try_find_at.new.self.sender in
+    if_none (MissesAfter a c.args.class sel c.refresh-count.result is) (MissesUnlessChanged a c.args.class sel was is) c.try_find_at.result
+    (missed_before a c.args.class sel (length was.front.changes) c.refresh-count.result is (omega (arith, as_long saw.front was.front c.refresh-count.ensures.begins, c.refresh-count.ensures.length))) c.try_find_at.ensures.missed

@@ -1,5 +1,5 @@
 use Rattle.std.proofs.Common.{arith}
-use Rattle.msg_reasons.proofs.MovingLemmas.{comes_last, comes_reached, way_next}
+use Rattle.msg_reasons.proofs.MovingLemmas.{comes_reached}
 use Rattle.msg_reasons.proofs.moving.Moving.move_to.Goals as goal
 
 pub returns-after-loop-self-clause-moved : goal.returns-after-loop-self-clause-moved
