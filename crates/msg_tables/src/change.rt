@@ -99,8 +99,8 @@ pub enum ChangeRef<'c> {
     },
     /// As [`Change::AddClass`].
     AddClass {
-        class: u32,
         superclass: Option<u32>,
+        class: u32,
     },
     /// As [`Change::Remove`].
     Remove {
