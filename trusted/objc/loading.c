@@ -160,7 +160,7 @@ static bool next_load(struct load *load)
     return some;
 }
 
-static void send_loads(void)
+void shim_send_loads(void)
 {
     struct load load;
     while (next_load(&load)) {
@@ -182,6 +182,16 @@ static void keep_loaded(const struct module *module)
     if (handle) dlclose(handle);
 }
 
+bool shim_make_with_waiting(const char *what)
+{
+    bool some = false;
+    while (try_all(&classes, try_class)) some = true;
+    some |= try_all(&categories, try_category);
+    shim_make(what);
+    try_all(&constants, try_constants);
+    return some;
+}
+
 /* What a module brings, and what waited for that, is one change. */
 static void take_module(struct module *module)
 {
@@ -190,10 +200,7 @@ static void take_module(struct module *module)
     if (!has_roots) take_symbols(shim_roots.symbols);
     has_roots = true;
     if (module != &shim_roots) take_symbols(module->symbols);
-    while (try_all(&classes, try_class)) {}
-    try_all(&categories, try_category);
-    shim_make(module->name);
-    try_all(&constants, try_constants);
+    shim_make_with_waiting(module->name);
 }
 
 /* A program may have no module, and those of others may come before. */
@@ -205,5 +212,5 @@ void __objc_exec_class(struct module *module)
         shim_stop("a module of another version", module->name);
     keep_loaded(module);
     take_module(module);
-    send_loads();
+    shim_send_loads();
 }

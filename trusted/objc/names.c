@@ -61,10 +61,7 @@ void *shim_list(size_t many, size_t size, unsigned int *count)
 
 /* Of this process alone, so nobody can choose names that are mixed alike. */
 static uint64_t secret[2];
-static __attribute__((constructor(101))) void take_secret(void)
-{
-    memcpy(secret, (const void *)getauxval(AT_RANDOM), sizeof secret);
-}
+void shim_take_secret(void) { memcpy(secret, (const void *)getauxval(AT_RANDOM), sizeof secret); }
 
 static uint64_t mix(uint64_t mixed, uint64_t word)
 {
@@ -180,19 +177,26 @@ static struct typed *typed_of(const char *text)
     return number ? name_at(number)->typed : NULL;
 }
 
-/* The same but for the places of the arguments, which programs write without knowing them. */
+/* The same but for the places of the arguments, which programs write without knowing them, and for
+ * qualifiers, which a protocol may say and a class not. */
 static bool same_types(const char *one, const char *other)
 {
     if (!one || !other) return one == other;
     if (!strcmp(one, other)) return true;
-    while (*one && *one == *other) {
+    for (;;) {
+        one = objc_skip_type_qualifiers(one);
+        other = objc_skip_type_qualifiers(other);
+        if (!*one || *one != *other) return *one == *other;
+        if (*one == '^') {
+            one++, other++;
+            continue;
+        }
         size_t length = (size_t)(objc_skip_typespec(one) - one);
         if (strncmp(one, other, length) || objc_skip_typespec(other) != other + length)
             return false;
         one = objc_skip_argspec(one);
         other = objc_skip_argspec(other);
     }
-    return *one == *other;
 }
 
 /* For as long as the program lasts. */
@@ -267,6 +271,13 @@ BOOL sel_is_mapped(SEL sel)
     return number && number <= name_count && sel->name.key == msg_key(0, number);
 }
 
-const char *sel_getName(SEL sel) { return sel ? name_at(shim_sel(sel))->text : "<null selector>"; }
+/* NULL of what isn't one, as of one that a compiler wrote and no module brought. */
+const char *sel_getName(SEL sel)
+{
+    if (!sel) return "<null selector>";
+    uint32_t number = shim_sel(sel);
+    bool is_one = number <= MOST_SELECTORS && sel->name.key == msg_key(0, number);
+    return is_one && names[number / CHUNK] ? name_at(number)->text : NULL;
+}
 const char *sel_getTypeEncoding(SEL sel) { return sel ? sel->types : NULL; }
 BOOL sel_isEqual(SEL a, SEL b) { return a && b ? a->name.key == b->name.key : a == b; }

@@ -78,6 +78,7 @@ static void start(void)
     if (msg_version() != MSG_VERSION_NUMBER || msg_sender_size() != sizeof(msg_sender))
         shim_stop("the library is of another header", "msg_version");
     shim_class_room = classes - 1;
+    shim_take_secret();
     msg_config config = {classes, senders, .arrays = {1024, 768, 320, 160, 128, 64, 32, 16, 8}};
     uint32_t fault = msg_process_start(&config);
     if (fault == MSG_ALREADY_OPEN) return;

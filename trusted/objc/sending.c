@@ -209,8 +209,8 @@ IMP get_imp(Class class_, SEL sel) { return class_getMethodImplementation(class_
 
 static __attribute__((noinline)) bool finds(Class class_, SEL sel)
 {
-    if (!class_->record || shim_in_construction(class_)) return false;
-    ensure_initialized(class_);
+    if (!class_->record) return false;
+    if (!shim_in_construction(class_)) ensure_initialized(class_);
     return shim_look(class_, sel);
 }
 

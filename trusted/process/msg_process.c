@@ -220,7 +220,7 @@ static void close_others(void)
     for (struct seat *seat = all, *next; seat; seat = next) {
         next = seat->next;
         if (seat == own) push(&seats, seat);
-        else if (!kept || !seat->asks) free_seat(closed(seat));
+        else if (!kept || !atomic_load(&seat->asks)) free_seat(closed(seat));
     }
     stays = stays_on ? &stay : NULL;
     stay.next = NULL;
@@ -236,7 +236,7 @@ static struct seat *stand_up(void)
     if (!seat) return NULL;
     pull(seat);
     own = NULL;
-    if ((int)spare_count >= SPARES) return closed(seat);
+    if ((int)atomic_load(&spare_count) >= SPARES) return closed(seat);
     push_spare(seat);
     return NULL;
 }

@@ -1,5 +1,6 @@
 /* @try, @catch by class, @finally, thrown again, through frames, out of +initialize and past what
- * is to be cleaned up, a matcher of the program's, and one that nobody catches. */
+ * is to be cleaned up, disposed of or changed there, a matcher of the program's, and one that
+ * nobody catches. */
 #include "roots.h"
 #include <stdio.h>
 #include <stdlib.h>
@@ -63,7 +64,22 @@ static __attribute__((noinline)) void throw_past(id object)
     @catch (Deep *deep) { printf("not for Deep\n"); }
 }
 
-static int matches_all(Class class_, id object) { return 1; }
+static __attribute__((noinline)) void throw_it(id object) { @throw object; }
+
+static void throw_disposed(id object)
+{
+    @try { throw_it(object); }
+    @finally { object_dispose(object); }
+}
+
+static void throw_changed(id object)
+{
+    @try { throw_it(object); }
+    @finally { object_setClass(object, objc_getClass("Other")); }
+}
+
+static int asked;
+static int matches_all(Class class_, id object) { return ++asked; }
 
 static void at_end(id object)
 {
@@ -96,8 +112,20 @@ int main(void)
         printf("out of +initialize, then %d\n", [Late value]);
         object_dispose(other);
     }
+    @try {
+        throw_disposed(new("Deep"));
+    } @catch (Trouble *gone) {
+        printf("caught what is gone\n");
+    }
+    @try {
+        @try { throw_changed(new("Deep")); }
+        @catch (Deep *deep) { printf("caught a Deep, by now %s\n", object_getClassName(deep)); }
+    } @catch (Other *other) {
+        printf("caught as another\n");
+    }
     objc_exception_matcher before = objc_setExceptionMatcher(matches_all);
-    printf("%s, by the program's matcher\n", caught_by(new("Other")));
+    printf("%s, by the program's matcher", caught_by(new("Other")));
+    printf(", asked %d times\n", asked);
     objc_setExceptionMatcher(before);
     objc_setUncaughtExceptionHandler(at_end);
     @throw new("Deep");

@@ -1,6 +1,26 @@
-/* Selectors: by name, with types and without, listed, compared. */
+/* Selectors: by name, with types and without, listed, compared, and registered before main. */
 #include "modules.h"
 #include <stdlib.h>
+
+static SEL early;
+static __attribute__((constructor(101))) void register_early(void)
+{
+    early = sel_registerName("early:");
+}
+
+/* What a compiler writes of a selector, which no module brought. */
+static void name_others(void)
+{
+    static struct { const void *id; const char *types; } text = {"turn:", NULL},
+                                                         far = {(void *)(8ul * 5000000), NULL};
+    printf("no selectors: %d %d\n", sel_getName((SEL)&text) == NULL,
+           sel_getName((SEL)&far) == NULL);
+}
+
+static int are_one(const char *types, const char *others)
+{
+    return sel_registerTypedName("go", types) == sel_registerTypedName("go", others);
+}
 
 int main(void)
 {
@@ -22,6 +42,11 @@ int main(void)
     left = sel_registerTypedName("turn:", "v20@0:8{a=i}16");
     other = sel_registerTypedName("turn:", "v20@0:8{a=s}16");
     printf("of another structure: another %d\n", other != left);
+    printf("by qualifiers: one %d %d %d, others %d %d\n", are_one("v16@0:8", "Vv16@0:8"),
+           are_one("r*16@0:8", "*16@0:8"), are_one("v24@0:8^r*16", "v24@0:8^*16"),
+           are_one("v24@0:8^ri16", "v24@0:8^*16"), are_one("v16@0:8", "Vv24@0:8r*16"));
+    printf("registered early: %d\n", sel_registerName("early:") == early);
+    name_others();
     printf("unknown: %d %d\n", sel_getTypedSelector("unheard") == NULL,
            sel_copyTypedSelectorList("unheard", &count) == NULL && count == 0);
     printf("NULL: %s %d %d %d\n", sel_getName(NULL), sel_registerName(NULL) == NULL,
