@@ -170,21 +170,15 @@ Class objc_allocateClassPair(Class superclass, const char *name, size_t extra)
     return class_;
 }
 
-/* Whether something had waited for it. */
-static bool make_pair(Class class_)
-{
-    LOCKED;
-    if (!shim_in_construction(class_) || shim_class_named(class_->name)) return false;
-    in_construction--;
-    shim_number_class(class_);
-    shim_bring_class(class_);
-    return shim_make_with_waiting(class_->name);
-}
-
 void objc_registerClassPair(Class class_)
 {
     if (!class_ || class_isMetaClass(class_)) return;
-    if (make_pair(class_)) shim_send_loads();
+    LOCKED;
+    if (!shim_in_construction(class_) || shim_class_named(class_->name)) return;
+    in_construction--;
+    shim_number_class(class_);
+    shim_bring_class(class_);
+    shim_make(class_->name);
 }
 
 void objc_disposeClassPair(Class class_)

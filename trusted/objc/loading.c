@@ -160,7 +160,7 @@ static bool next_load(struct load *load)
     return some;
 }
 
-void shim_send_loads(void)
+static void send_loads(void)
 {
     struct load load;
     while (next_load(&load)) {
@@ -182,16 +182,6 @@ static void keep_loaded(const struct module *module)
     if (handle) dlclose(handle);
 }
 
-bool shim_make_with_waiting(const char *what)
-{
-    bool some = false;
-    while (try_all(&classes, try_class)) some = true;
-    some |= try_all(&categories, try_category);
-    shim_make(what);
-    try_all(&constants, try_constants);
-    return some;
-}
-
 /* What a module brings, and what waited for that, is one change. */
 static void take_module(struct module *module)
 {
@@ -200,7 +190,10 @@ static void take_module(struct module *module)
     if (!has_roots) take_symbols(shim_roots.symbols);
     has_roots = true;
     if (module != &shim_roots) take_symbols(module->symbols);
-    shim_make_with_waiting(module->name);
+    while (try_all(&classes, try_class)) {}
+    try_all(&categories, try_category);
+    shim_make(module->name);
+    try_all(&constants, try_constants);
 }
 
 /* A program may have no module, and those of others may come before. */
@@ -212,5 +205,5 @@ void __objc_exec_class(struct module *module)
         shim_stop("a module of another version", module->name);
     keep_loaded(module);
     take_module(module);
-    shim_send_loads();
+    send_loads();
 }

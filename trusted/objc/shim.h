@@ -175,10 +175,6 @@ void shim_take_protocols(struct protocol_list *list);
 void shim_bring_class(Class class_); /* with the methods that it has by now */
 void shim_bring_method(struct record *record, Method method);
 void shim_make(const char *what);
-/* loading.c: with what waited for it, whether there was some; and then, without the lock, the
- * +load of that. */
-bool shim_make_with_waiting(const char *what);
-void shim_send_loads(void);
 Method shim_standing(Class class_, uint32_t sel); /* what the rows say; also without the lock */
 static inline IMP shim_imp(Method method) { return LOAD(method->imp); }
 

@@ -32,8 +32,7 @@ void *shim_index(struct index *index, uint32_t mixed, uint32_t number)
     return NULL;
 }
 void shim_bring_class(Class class_) { }
-bool shim_make_with_waiting(const char *what) { return shim_publish(), false; } /* none waits */
-void shim_send_loads(void) { }
+void shim_make(const char *what) { shim_publish(); }
 #ifndef STEPS
 #define STEPS 5
 #endif

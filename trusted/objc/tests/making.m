@@ -1,6 +1,5 @@
-/* Classes made at run time: under a class, as a root, given up, of a name that is taken, and one
- * that a module's class waits for; what is asked of one in construction; and 2,000 of them while
- * another thread sends. */
+/* Classes made at run time: under a class, as a root, given up, of a name that is taken; what is
+ * asked of one in construction; and 2,000 of them while another thread sends. */
 #include "roots.h"
 #include <pthread.h>
 #include <sched.h>
@@ -17,24 +16,6 @@ static int initialized;
 + (void)initialize { initialized++; }
 - (long)number { return 1; }
 + (const char *)kind { return "maker"; }
-@end
-
-/* No module has it. */
-__asm__(".globl __objc_class_name_Awaited\n.set __objc_class_name_Awaited, 0\n");
-@interface Awaited : Maker
-@end
-@interface Below : Awaited
-+ (long)twice;
-@end
-@implementation Below
-+ (void)load { printf("loaded, "); }
-- (long)number { return [super number] + 10; }
-+ (long)twice { return 22; }
-@end
-@interface Awaited (More)
-@end
-@implementation Awaited (More)
-- (long)number { return 5; }
 @end
 
 @protocol Unfinished
@@ -121,24 +102,15 @@ static void give_up(Class maker)
            ((id)((id)made)->isa)->isa == ((id)((id)objc_getClass("Object"))->isa)->isa);
 }
 
-static void make_awaited(Class maker)
+static void make_root(const char *name, const char *isa_name)
 {
-    printf("it waits %d, ", objc_getClass("Below") == NULL);
-    objc_registerClassPair(objc_allocateClassPair(maker, "Awaited", 0));
-    Maker *object = (Maker *)class_createInstance(objc_getClass("Below"), 0);
-    printf("it came, and sends %ld and %ld\n", [object number], [Below twice]);
-    object_dispose((id)object);
-}
-
-static void make_root(void)
-{
-    Class root = objc_allocateClassPair(NULL, "Begun", 0);
-    class_addIvar(root, "isa", sizeof(Class), 3, "#");
+    Class root = objc_allocateClassPair(NULL, name, 0);
+    class_addIvar(root, isa_name, sizeof(Class), 3, "#");
     class_addIvar(root, "count", sizeof(int), 2, "i");
     objc_registerClassPair(root);
     id object = class_createInstance(root, 0);
     void *isa = NULL;
-    object_getInstanceVariable(object, "isa", &isa);
+    object_getInstanceVariable(object, isa_name, &isa);
     printf("its isa %d, size %zu\n", isa == (void *)root, class_getInstanceSize(root));
     object_dispose(object);
 }
@@ -146,7 +118,6 @@ static void make_root(void)
 int main(void)
 {
     Class maker = objc_getClass("Maker");
-    make_awaited(maker);
     int before = objc_getClassList(NULL, 0);
     Class made = objc_allocateClassPair(maker, "Made", 0);
     printf("in construction: found %d, under %s\n", objc_getClass("Made") != NULL,
@@ -169,7 +140,8 @@ int main(void)
     objc_registerClassPair(root);
     id rooted = class_createInstance(root, 0);
     printf("root %ld, size %zu\n", [(Maker *)rooted number], class_getInstanceSize(root));
-    make_root();
+    make_root("Begun", "isa");
+    make_root("Other root", "class_pointer");
     pthread_t thread;
     void *wrong;
     pthread_create(&thread, NULL, work, object);
