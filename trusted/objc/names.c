@@ -177,8 +177,9 @@ static struct typed *typed_of(const char *text)
     return number ? name_at(number)->typed : NULL;
 }
 
-/* The same but for the places of the arguments, which programs write without knowing them, and for
- * qualifiers, which a protocol may say and a class not. */
+/* Whether two types are one. The places of the arguments don't count, since programs write them
+ * without knowing them. Qualifiers don't count either: a protocol may have some that a class that
+ * adopts it leaves out. */
 static bool same_types(const char *one, const char *other)
 {
     if (!one || !other) return one == other;
@@ -264,20 +265,21 @@ SEL sel_get_any_uid(const char *name)
     return newest ? &newest->sel : NULL;
 }
 
-BOOL sel_is_mapped(SEL sel)
+/* The name of a selector. It is NULL if the words aren't those of a registered one, such as what a
+ * compiler wrote of a selector before its module was loaded. */
+static const char *name_of(SEL sel)
 {
-    LOCKED;
-    uint32_t number = sel ? shim_sel(sel) : 0;
-    return number && number <= name_count && sel->name.key == msg_key(0, number);
-}
-
-/* NULL of what isn't one, as of one that a compiler wrote and no module brought. */
-const char *sel_getName(SEL sel)
-{
-    if (!sel) return "<null selector>";
     uint32_t number = shim_sel(sel);
     bool is_one = number <= MOST_SELECTORS && sel->name.key == msg_key(0, number);
     return is_one && names[number / CHUNK] ? name_at(number)->text : NULL;
 }
+
+BOOL sel_is_mapped(SEL sel)
+{
+    LOCKED;
+    return sel && name_of(sel);
+}
+
+const char *sel_getName(SEL sel) { return sel ? name_of(sel) : "<null selector>"; }
 const char *sel_getTypeEncoding(SEL sel) { return sel ? sel->types : NULL; }
 BOOL sel_isEqual(SEL a, SEL b) { return a && b ? a->name.key == b->name.key : a == b; }
