@@ -235,7 +235,7 @@ enum {
     MSG_NO_SELECTOR = 67,  /* a selector's number is 0 */
     MSG_NO_SENDER = 68,    /* as many senders as the config says are open */
     MSG_NO_MEMORY = 69,    /* no memory */
-    MSG_NONE = 70,         /* there is no superclass, method or text */
+    MSG_NONE = 70,         /* no superclass, method, text or further member */
     MSG_MISSED = 71,       /* msg_probe: not cached. Ask msg_fill */
     MSG_BAD_CONFIG = 73,   /* a field is beyond its most, or isn't known */
     MSG_BAD_CHANGE = 75,   /* a change of no kind, or meta above 1 */

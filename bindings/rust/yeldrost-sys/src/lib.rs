@@ -230,7 +230,7 @@ pub const MSG_NO_SELECTOR: u32 = 67;
 pub const MSG_NO_SENDER: u32 = 68;
 /// No memory.
 pub const MSG_NO_MEMORY: u32 = 69;
-/// There is no superclass, method or text.
+/// There is no superclass, method, text or further member.
 pub const MSG_NONE: u32 = 70;
 /// Msg_probe: not cached. Ask msg_fill.
 pub const MSG_MISSED: u32 = 71;
