@@ -32,7 +32,7 @@
  * copy of the library. Either link both with the shared library (pkg-config's
  * yeldrost). Or link the program with the static one (yeldrost-static) and
  * -rdynamic, and the plug-in with neither: it takes yeldrost's --cflags alone.
- * If the plug-in has a copy of its own, its finds return MSG_CLOSED.
+ * If it reaches a copy of its own, its finds return MSG_CLOSED.
  *
  * Fork: the child has the forking thread, its sender and the runtime, as they
  * were. The others' senders are closed, and msg_process_seen_by_all counts the
@@ -68,8 +68,9 @@ extern "C" {
 
 /* Opens the runtime of the process, once. With NULL all is the default.
  *
- * Faults: MSG_ALREADY_OPEN at a second time, else those of msg_open.
- * MSG_NO_MEMORY also comes if the process has no thread key left. */
+ * Faults: MSG_ALREADY_OPEN at a second time, MSG_LOCK_HELD if the calling
+ * thread holds the lock, else those of msg_open. MSG_NO_MEMORY also comes if
+ * the process has no thread key left. */
 uint32_t msg_process_start(const msg_config *config);
 /* Takes the lock, and gives the runtime, to ask and to change it.
  *

@@ -120,6 +120,7 @@ typedef struct {
 typedef struct {
     void *at;
     bool open;
+    bool apart[7];      /* unused, so that what follows begins at 16 */
     bool written[64];   /* the library's: which 128 places have notes */
     uint64_t unused[2]; /* so that no note lies on two lines of the cache */
     msg_note notes[MSG_NOTES];
@@ -132,7 +133,7 @@ typedef struct {
 /* clang-format off */
 #define MSG_RUNTIME_INIT {0, 0}
 #define MSG_SENDER_INIT \
-    {0, 0, {0}, {0}, {{0, 0, 0, 0, 0}}, {{0, 0, 0, 0, 0}}}
+    {0, 0, {0}, {0}, {0}, {{0, 0, 0, 0, 0}}, {{0, 0, 0, 0, 0}}}
 #define MSG_TEXTS_INIT {0, 0}
 /* clang-format on */
 
@@ -239,7 +240,7 @@ enum {
     MSG_MISSED = 71,       /* msg_probe: not cached. Ask msg_fill */
     MSG_BAD_CONFIG = 73,   /* a field is beyond its most, or isn't known */
     MSG_BAD_CHANGE = 75,   /* a change of no kind, or meta above 1 */
-    MSG_NO_ROOM = 76,      /* the array for the answer has another size */
+    MSG_NO_ROOM = 76,      /* the array for the answer has the wrong size */
     MSG_LOCK_HELD = 74     /* msg_process.h: the lock is held already */
 };
 
@@ -459,7 +460,8 @@ uint32_t msg_words(msg_runtime *runtime, const uint64_t **words);
  * are open as the config says. A sender that is closed counts no more. */
 uint32_t msg_sender_open(msg_runtime *runtime, msg_sender *sender);
 /* Closes a sender. `runtime` is the handle that opened it, even if that is
- * closed by now: only a sender that isn't open is MSG_CLOSED. */
+ * closed by now: only a sender that isn't open is MSG_CLOSED. A handle that is
+ * closed may be opened again once its senders are closed, too. */
 uint32_t msg_sender_close(msg_runtime *runtime, msg_sender *sender);
 /* Looks a method up after all changes so far (lookUpImpOrForward), which the
  * sender has then seen. `imp` is set as by msg_lookup. The sender notes it, and
@@ -629,6 +631,8 @@ uint32_t msg_type_member(const uint8_t *text, size_t length, uint64_t before,
 MSG_IS_SO(sizeof(msg_note) == 32);
 MSG_IS_SO(offsetof(msg_note, stamp) == 24);
 MSG_IS_SO(sizeof(msg_sender) == 96 + 64 * MSG_NOTES);
+MSG_IS_SO(offsetof(msg_sender, written) == 16);
+MSG_IS_SO(offsetof(msg_sender, notes) == 96);
 MSG_IS_SO(sizeof(msg_config) == 44);
 MSG_IS_SO(sizeof(msg_change) == 32);
 MSG_IS_SO(offsetof(msg_change, number) == 4 && offsetof(msg_change, sel) == 12);
@@ -684,7 +688,7 @@ static inline const char *msg_fault_text(uint32_t fault)
     case MSG_NONE: return "there is none";
     case MSG_MISSED: return "not cached";
     case MSG_BAD_CONFIG: return "the config asks for too much";
-    case MSG_BAD_CHANGE: return "no such kind of change";
+    case MSG_BAD_CHANGE: return "no such kind of change, or meta above 1";
     case MSG_NO_ROOM: return "another count of places is needed for the answer";
     case MSG_LOCK_HELD: return "the thread has the lock, or can't wait for it";
     default: return "unknown fault";

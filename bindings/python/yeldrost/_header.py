@@ -24,6 +24,7 @@ class msg_sender(c.Structure):
     _fields_ = [
         ("at", c.c_void_p),
         ("open", c.c_bool),
+        ("apart", c.c_bool * 7),
         ("written", c.c_bool * 64),
         ("unused", c.c_uint64 * 2),
         ("notes", msg_note * NOTES),
@@ -117,7 +118,7 @@ FAULTS = {
     "None_": (70, "there is none"),
     "Missed": (71, "not cached"),
     "BadConfig": (73, "the config asks for too much"),
-    "BadChange": (75, "no such kind of change"),
+    "BadChange": (75, "no such kind of change, or meta above 1"),
     "NoRoom": (76, "another count of places is needed for the answer"),
     "LockHeld": (74, "the thread has the lock, or can't wait for it"),
 }

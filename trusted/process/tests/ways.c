@@ -278,6 +278,17 @@ static void compare_classes(const struct model *model, int other)
 }
 #endif
 
+#ifdef REFUSES
+/* Where the library says so itself: its handle lies as the header's does. */
+static void want_written(uint32_t number, bool meta, uint32_t sel)
+{
+    uint64_t key = msg_key(2 * number + meta, sel);
+    want("written", sender.written[(uint16_t)key / 8 / 128], true);
+}
+#else
+#define want_written(number, meta, sel) (void)0
+#endif
+
 static void compare(struct model *model)
 {
 #ifdef REFUSES
@@ -298,6 +309,7 @@ static void compare(struct model *model)
             want("lookup", msg_lookup(&runtime, number, meta, sel, &looked), MSG_DONE);
             want("looked up", looked, imp ? *imp : 0);
             want("sent", sent(number, meta, sel), imp ? *imp : 0);
+            want_written(number, meta, sel);
         }
     }
 }

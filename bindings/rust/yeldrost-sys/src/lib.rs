@@ -57,6 +57,8 @@ pub struct msg_sender {
     pub at: *mut c_void,
     /// Whether it is open.
     pub open: bool,
+    /// Unused, so that what follows begins at 16.
+    pub apart: [bool; 7],
     /// The library's: which 128 places have notes.
     pub written: [bool; 64],
     /// So that no note lies on two lines of the cache.
@@ -622,8 +624,10 @@ pub unsafe fn msg_recall_inline(
     }
 }
 
-use core::mem::size_of;
+use core::mem::{offset_of, size_of};
 const _: () = assert!(size_of::<msg_note>() == 32);
 const _: () = assert!(size_of::<msg_sender>() == 96 + 64 * MSG_NOTES);
+const _: () = assert!(offset_of!(msg_sender, written) == 16);
+const _: () = assert!(offset_of!(msg_sender, notes) == 96);
 const _: () = assert!(size_of::<msg_change>() == 32);
 const _: () = assert!(size_of::<msg_lookup_row>() == 12);
