@@ -123,9 +123,9 @@ public:
     std::uint32_t class_count() { return told<std::uint32_t>(msg_class_count); }
     std::uint64_t change_count() { return told<std::uint64_t>(msg_change_count); }
     // A count of changes: as many as every open sender had seen when it rested last, or was opened; all if none is
-    // open. Code that the first so many changes took out can be freed. You see to three things. No later change puts it
-    // back. No thread calls what lookup or methods returned before: that isn't counted. And none calls what
-    // sender::recall returned with a `since` below this count.
+    // open. Code that the first so many changes took out can be freed. You see to four things. A thread that rests keeps
+    // nothing that it found. No later change puts the code back. No thread calls what lookup or methods returned
+    // before: that isn't counted. And none calls what sender::recall returned with a `since` below this count.
     std::uint64_t seen_by_all() { return told<std::uint64_t>(msg_seen_by_all); }
     msg_report_row report()
     {

@@ -248,6 +248,7 @@ class Calls(unittest.TestCase):
             with runtime.sender():
                 pass
         self.assertRaises(yeldrost.BadConfigError, yeldrost.Runtime, classes=2_000_000)
+        self.assertRaises(TypeError, yeldrost.Runtime, arrays=(1, 2, 3))
 
     def test_senders(self):
         with self.opened() as runtime, runtime.sender() as sender:

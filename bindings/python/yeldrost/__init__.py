@@ -218,6 +218,8 @@ class Runtime:
         arrays: Sequence[int] = (0,) * 9,
         holds_gil: bool = True,
     ) -> None:
+        if len(arrays) != 9:
+            raise TypeError(f"wants nine numbers of arrays, not {len(arrays)}")
         _checked(classes, senders, *arrays)
         self._shared = _Shared(
             holds_gil, _header.msg_config(classes, senders, (ctypes.c_uint32 * 9)(*arrays))
@@ -293,15 +295,15 @@ class Runtime:
 
     @property
     def change_count(self) -> int:
-        """How many changes were made. A list counts as one."""
+        """How many changes were made. A list counts as one, and an empty one not at all."""
         return self._told(ctypes.c_uint64, "msg_change_count").value
 
     def seen_by_all(self) -> int:
         """Returns a count of changes: as many as every open sender had seen when it rested last, or
         was opened; all if none is open. Code that the first so many changes took out can be freed.
-        You see to three things. No later change puts it back. No thread calls what `lookup` or
-        `methods` returned before: that isn't counted. And none calls what `recall` returned with a
-        `since` below this count."""
+        You see to four things. A thread that rests keeps nothing that it found. No later change
+        puts the code back. No thread calls what `lookup` or `methods` returned before: that isn't
+        counted. And none calls what `recall` returned with a `since` below this count."""
         return self._told(ctypes.c_uint64, "msg_seen_by_all").value
 
     def report(self) -> Dict[str, Union[int, List[int]]]:
@@ -319,7 +321,7 @@ class Runtime:
 
     def superclass(self, of: Class) -> Optional[ClassRef]:
         """What stands above: of a metaclass the superclass's metaclass, and of a root's metaclass
-        the root itself. None above a root class."""
+        the root itself. None above a root class, and of a class that isn't made."""
         above = self._told(_header.msg_class, "msg_superclass", *_ref(of))
         return above and ClassRef(above.number, above.meta)
 

@@ -234,7 +234,7 @@ pub const MSG_NO_SENDER: u32 = 68;
 pub const MSG_NO_MEMORY: u32 = 69;
 /// There is no superclass, method, text or further member.
 pub const MSG_NONE: u32 = 70;
-/// Msg_probe: not cached. Ask msg_fill.
+/// Of `msg_probe`: not cached. Ask `msg_fill`.
 pub const MSG_MISSED: u32 = 71;
 /// A field is beyond its most, or isn't known.
 pub const MSG_BAD_CONFIG: u32 = 73;
@@ -242,7 +242,7 @@ pub const MSG_BAD_CONFIG: u32 = 73;
 pub const MSG_BAD_CHANGE: u32 = 75;
 /// The array for the answer has another size.
 pub const MSG_NO_ROOM: u32 = 76;
-/// Msg_process.h: the lock is held already.
+/// Of `msg_process.h`: the lock is held already.
 pub const MSG_LOCK_HELD: u32 = 74;
 
 extern "C" {

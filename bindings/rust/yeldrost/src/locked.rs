@@ -33,7 +33,7 @@ impl<'r> Locked<'r> {
         Ok(count)
     }
 
-    /// How many changes were made. A list counts as one.
+    /// How many changes were made. A list counts as one, and an empty one not at all.
     pub fn change_count(&mut self) -> Result<u64, Fault> {
         let mut count = 0;
         Fault::of(unsafe { sys::msg_change_count(&mut self.handle.0, &mut count) })?;
@@ -63,7 +63,7 @@ impl<'r> Locked<'r> {
     }
 
     /// What stands above: above a class its superclass, above a metaclass the superclass's metaclass, and above a root's
-    /// metaclass the root itself. None above a root class.
+    /// metaclass the root itself. None above a root class, and of a class that isn't made.
     pub fn superclass(&mut self, of: ClassRef) -> Result<Option<ClassRef>, Fault> {
         let mut above = sys::msg_class::default();
         let answer =
@@ -318,10 +318,10 @@ impl<'r> Locked<'r> {
     }
 
     /// Returns a count of changes: as many as every open sender had seen when it rested last, or was opened; all if
-    /// none is open. Code that the first so many changes took out can be freed. You see to three things. No later
-    /// change puts it back. No thread calls what [`lookup`](Locked::lookup) or [`methods`](Locked::methods) returned
-    /// before: that isn't counted. And none calls what [`recall_since`](Sender::recall_since) returned with a `since`
-    /// below this count.
+    /// none is open. Code that the first so many changes took out can be freed. You see to four things. A thread
+    /// that rests keeps nothing that it found. No later change puts the code back. No thread calls what
+    /// [`lookup`](Locked::lookup) or [`methods`](Locked::methods) returned before: that isn't counted. And none calls
+    /// what [`recall_since`](Sender::recall_since) returned with a `since` below this count.
     pub fn seen_by_all(&mut self) -> Result<u64, Fault> {
         let mut count = 0;
         Fault::of(unsafe { sys::msg_seen_by_all(&mut self.handle.0, &mut count) })?;
