@@ -32,7 +32,9 @@
  * copy of the library. Either link both with the shared library (pkg-config's
  * yeldrost). Or link the program with the static one (yeldrost-static) and
  * -rdynamic, and the plug-in with neither: it takes yeldrost's --cflags alone.
- * If it reaches a copy of its own, its finds return MSG_CLOSED.
+ * If it reaches a copy of its own, its finds return MSG_CLOSED. An object that
+ * has a copy inside is never unloaded (-z nodelete, as yeldrost-static says),
+ * since a thread's end calls it.
  *
  * Fork: the child has the forking thread, its sender and the runtime, as they
  * were. The others' senders are closed, and msg_process_seen_by_all counts the

@@ -121,10 +121,13 @@ static inline bool resolve(Class class_, SEL sel)
            ((BOOL(*)(id, SEL, SEL))(void (*)(void))imp)((id)plain, asked, sel);
 }
 
-/* Asks the class to add a method that it lacks: whether it says that it has. */
+/* Asks the class to add a method that it lacks: whether it says that it has. Of a class method one
+ * that has no resolver isn't asked, and so isn't initialized. */
 bool shim_resolve(Class class_, SEL sel)
 {
     if (shim_in_construction(class_)) return false;
+    Class plain = plain_class(class_);
+    if (class_ != plain && !shim_look(plain->isa, &shim_own[RESOLVE_CLASS])) return false;
     ensure_initialized(class_);
     return resolve(class_, sel);
 }

@@ -1,8 +1,13 @@
 """Each call of the header through the package, each kind of fault, and threads beside changes, with
 and without the interpreter's lock held in calls."""
 import _thread
+import contextlib
 import gc
+import signal
+import subprocess
+import sys
 import threading
+import time
 import unittest
 
 import yeldrost
@@ -18,6 +23,33 @@ def run(work):
     thread = threading.Thread(target=work)
     thread.start()
     thread.join()
+
+
+# A daemon thread has the lock, or is in a call, as the interpreter ends.
+ENDING = """
+import threading, time, yeldrost
+runtime = yeldrost.Runtime(holds_gil={})
+sender = runtime.sender()
+def stay():
+    with runtime.held():
+        held.set()
+        time.sleep(100)
+held = threading.Event()
+threading.Thread(target=stay, daemon=True).start()
+held.wait()
+"""
+
+
+@contextlib.contextmanager
+def interrupted(handler):
+    """A handler of a signal runs again and again meanwhile."""
+    before = signal.signal(signal.SIGALRM, lambda *_: handler())
+    signal.setitimer(signal.ITIMER_REAL, 0.0001, 0.0001)
+    try:
+        yield
+    finally:
+        signal.setitimer(signal.ITIMER_REAL, 0)
+        signal.signal(signal.SIGALRM, before)
 
 
 class Calls(unittest.TestCase):
@@ -341,11 +373,16 @@ class Calls(unittest.TestCase):
             with self.assertRaises(yeldrost.WrongThreadError):
                 opened[0].find(CHILDREN, VALUE)
             found.append("refused")
+            together.wait()  # so that they have each stack that was left
 
+        together = threading.Barrier(20)
+        others = [threading.Thread(target=other) for _ in range(20)]
         with self.opened() as runtime:
             run(open_one)
-            for _ in range(20):
-                run(other)
+            for it in others:
+                it.start()
+            for it in others:
+                it.join()
         self.assertIn(opened[1], idents, "no ident was used again")
         self.assertEqual(["refused"] * 20, found)
 
@@ -424,6 +461,22 @@ class Calls(unittest.TestCase):
             for it in threads:
                 it.join()
         self.assertEqual([], wrong)
+
+    def test_handlers_of_signals(self):
+        with self.opened() as runtime, runtime.sender() as sender:
+            with interrupted(lambda: sender.find(CHILDREN, NAME)):
+                end = time.monotonic() + 0.5
+                while time.monotonic() < end:
+                    self.assertEqual(1, sender.find(CHILDREN, VALUE))
+                    self.assertEqual(1, sender.fill(CHILDREN, VALUE))
+        texts = yeldrost.Texts(self.holds_gil)
+        with interrupted(lambda: texts.find(b"value")):
+            for _ in range(20_000):
+                self.assertEqual(1, texts.intern(b"value"))
+
+    def test_the_end_of_the_interpreter(self):
+        program = ENDING.format(self.holds_gil)
+        self.assertEqual(0, subprocess.run([sys.executable, "-c", program], timeout=60).returncode)
 
     def test_texts(self):
         with yeldrost.Texts(self.holds_gil) as texts:

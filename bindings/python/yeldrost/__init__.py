@@ -20,7 +20,19 @@ import enum
 import operator
 import threading
 import weakref
-from typing import Any, Dict, Iterable, Iterator, List, NamedTuple, Optional, Sequence, Tuple, Union
+from typing import (
+    Any,
+    Callable,
+    Dict,
+    Iterable,
+    Iterator,
+    List,
+    NamedTuple,
+    Optional,
+    Sequence,
+    Tuple,
+    Union,
+)
 
 from . import _errors, _header, _library
 from ._errors import (
@@ -192,6 +204,13 @@ class Change(NamedTuple):
         return cls(_header.KINDS["COVERS"], *_ref(of), selector, imp)
 
 
+def _at_collection(of: object, call: Callable[..., Any], *words: Any) -> weakref.finalize:
+    """Not when the interpreter ends: daemon threads may be in a call then."""
+    it = weakref.finalize(of, call, *words)
+    it.atexit = False
+    return it
+
+
 class _Shared:
     """What a runtime and its senders share. It is freed with the last of them."""
 
@@ -201,7 +220,7 @@ class _Shared:
         self.lock = threading.RLock()
         words = ctypes.cast(ctypes.byref(config), ctypes.POINTER(ctypes.c_uint32))
         _errors.must(self.library.msg_open_words(self.handle, words, ctypes.sizeof(config) // 4))
-        weakref.finalize(self, self.library.msg_close, self.handle)
+        _at_collection(self, self.library.msg_close, self.handle)
 
 
 class Runtime:
@@ -495,10 +514,11 @@ class Sender:
         except MemoryError:
             raise NoMemoryError() from None
         self._thread = threading.current_thread()
-        self._imp, self._at = ctypes.c_uint32(), ctypes.pointer(self._raw)
+        self._at = ctypes.pointer(self._raw)
+        # first, since a signal's handler may raise behind the call: one that is closed stays so
+        self._finalizer = _at_collection(self, _close_sender, shared, self._raw)
         with shared.lock:
             _errors.must(shared.library.msg_sender_open(shared.handle, self._at))
-        self._finalizer = weakref.finalize(self, _close_sender, shared, self._raw)
 
     def __repr__(self) -> str:
         closed = "" if self._finalizer.alive else ", closed"
@@ -534,18 +554,8 @@ class Sender:
     def find(self, of: Class, selector: int) -> Optional[int]:
         """Returns the implementation of a method, or None if there is none. It sees every change
         that had returned when the call began. A probe, and after a miss a fill under the lock."""
-        found = self._probe(of, selector)
-        if found == _MISSED:
-            return self.fill(of, selector)
-        _errors.must(found)
-        return self._imp.value or None
-
-    def _probe(self, of: Class, selector: int) -> int:
-        self._own()
-        _checked(selector)
-        return self._shared.library.msg_probe(
-            self._at, *_ref(of), selector, ctypes.byref(self._imp)
-        )
+        found = self.probe(of, selector)
+        return self.fill(of, selector) if isinstance(found, Missed) else found
 
     def find_all(self, lookups: Iterable[Tuple[Class, int]]) -> List[Optional[int]]:
         """Several as one, each a pair of a class reference and a selector: all at one version,
@@ -564,24 +574,24 @@ class Sender:
     def probe(self, of: Class, selector: int) -> Union[int, None, Missed]:
         """What is noted or cached, at what the sender has then seen: an implementation, or None for
         forwarding. `MISSED` if it is neither; then `fill`."""
-        answer = self._probe(of, selector)
+        self._own()
+        _checked(selector)
+        imp = ctypes.c_uint32()  # its own: a signal's handler may find by this sender, too
+        answer = self._shared.library.msg_probe(self._at, *_ref(of), selector, ctypes.byref(imp))
         if answer == _MISSED:
             return MISSED
         _errors.must(answer)
-        return self._imp.value or None
+        return imp.value or None
 
     def fill(self, of: Class, selector: int) -> Optional[int]:
         """The lookup after all changes, which the sender has then seen, and notes."""
         self._own()
         _checked(selector)
-        shared = self._shared
+        shared, imp = self._shared, ctypes.c_uint32()
+        words = (shared.handle, self._at, *_ref(of), selector, ctypes.byref(imp))
         with shared.lock:
-            _errors.must(
-                shared.library.msg_fill(
-                    shared.handle, self._at, *_ref(of), selector, ctypes.byref(self._imp)
-                )
-            )
-        return self._imp.value or None
+            _errors.must(shared.library.msg_fill(*words))
+        return imp.value or None
 
     def meet(self) -> None:
         """The sender has then seen all changes."""
@@ -634,10 +644,10 @@ class Texts:
         self._library, self._handle, self._lock = (
             _library.load(holds_gil),
             _header.msg_texts(),
-            threading.Lock(),
+            threading.RLock(),
         )
         _errors.must(self._library.msg_texts_open(self._handle))
-        weakref.finalize(self, self._library.msg_texts_close, self._handle)
+        _at_collection(self, self._library.msg_texts_close, self._handle)
 
     def __enter__(self) -> Texts:
         return self

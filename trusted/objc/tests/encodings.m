@@ -38,6 +38,11 @@ int main(void)
     printf("skipped: %s %s %s\n", objc_skip_typespec("^{a=i[3(b=fc)]}8@0"),
            objc_skip_argspec("{a=i}8@0:4"), objc_skip_offset("-12i"));
     printf("%s %s %s\n", objc_skip_offset("+12i"), objc_skip_offset("12i"), objc_skip_offset("i"));
+    const char *named = "\"x\"i\"y\"d}", *second = objc_skip_typespec(named);
+    printf("named: %d by %d, then %s, %d by %d, then %s\n", objc_sizeof_type(named),
+           objc_alignof_type(named), second, objc_sizeof_type(second), objc_alignof_type(second),
+           objc_skip_typespec(second));
+    printf("void: %d\n", objc_sizeof_type("v"));
     struct objc_struct_layout layout;
     unsigned int offset, align, size;
     const char *type;

@@ -119,6 +119,8 @@ int main(void)
 {
     Class maker = objc_getClass("Maker");
     int before = objc_getClassList(NULL, 0);
+    bool has = class_getClassMethod(maker, sel_registerName("lacks")) != NULL;
+    printf("lacks: %d, initialized %d\n", has, initialized);
     Class made = objc_allocateClassPair(maker, "Made", 0);
     printf("in construction: found %d, under %s\n", objc_getClass("Made") != NULL,
            class_getName(class_getSuperclass(made)));

@@ -567,13 +567,11 @@ uint32_t msg_dispose_class(msg_runtime *runtime, uint32_t number)
     return change_one(runtime, (msg_change){MSG_DISPOSES_CLASS, number, 0, 0, 0, 0, 0, 0});
 }
 
-static uint32_t fault_in(const msg_method *methods, size_t count)
+static bool lack_one(const msg_method *methods, size_t count, bool imps)
 {
-    for (size_t i = 0; i < count; i++) {
-        if (!methods[i].sel) return MSG_NO_SELECTOR;
-        if (!methods[i].imp) return MSG_NO_SUCH_IMP;
-    }
-    return MSG_DONE;
+    for (size_t i = 0; i < count; i++)
+        if (!(imps ? methods[i].imp : methods[i].sel)) return true;
+    return false;
 }
 
 /* From the last, so that the earlier of a name counts. */
@@ -587,11 +585,12 @@ uint32_t msg_attach(msg_runtime *runtime, uint32_t number, const msg_method *met
 {
     if (!runtime->open) return MSG_CLOSED;
     struct tables *tables = runtime->at;
-    uint32_t fault = MSG_NO_SUCH_CLASS;
-    if (is_made(tables, number)) fault = fault_in(methods, count);
-    if (!fault) fault = fault_in(class_methods, class_count);
-    if (!fault && version(tables) == CHANGES) fault = MSG_LIMIT;
-    if (fault) return fault;
+    if (lack_one(methods, count, false) || lack_one(class_methods, class_count, false))
+        return MSG_NO_SELECTOR;
+    if (!is_made(tables, number)) return MSG_NO_SUCH_CLASS;
+    if (lack_one(methods, count, true) || lack_one(class_methods, class_count, true))
+        return MSG_NO_SUCH_IMP;
+    if (version(tables) == CHANGES) return MSG_LIMIT;
     put_all(tables, 2 * number, methods, count);
     put_all(tables, 2 * number + 1, class_methods, class_count);
     if (count) flush(tables, number, false);
@@ -602,8 +601,8 @@ uint32_t msg_attach(msg_runtime *runtime, uint32_t number, const msg_method *met
 
 uint32_t msg_sender_open(msg_runtime *runtime, msg_sender *sender)
 {
-    if (!runtime->open) return MSG_CLOSED;
     if (sender->open) return MSG_ALREADY_OPEN;
+    if (!runtime->open) return MSG_CLOSED;
     struct tables *tables = runtime->at;
     if (tables->out == tables->senders) {
         tables->refused++;
