@@ -629,10 +629,13 @@ uint32_t msg_type_member(const uint8_t *text, size_t length, uint64_t before,
 #define MSG_IS_SO(what) struct msg_is_so
 #endif
 MSG_IS_SO(sizeof(msg_note) == 32);
+MSG_IS_SO(offsetof(msg_note, seal) == 0 && offsetof(msg_note, count) == 8);
+MSG_IS_SO(offsetof(msg_note, imp) == 16 && offsetof(msg_note, parity) == 20);
 MSG_IS_SO(offsetof(msg_note, stamp) == 24);
 MSG_IS_SO(sizeof(msg_sender) == 96 + 64 * MSG_NOTES);
 MSG_IS_SO(offsetof(msg_sender, written) == 16);
 MSG_IS_SO(offsetof(msg_sender, notes) == 96);
+MSG_IS_SO(offsetof(msg_sender, second_notes) == 96 + 32 * MSG_NOTES);
 MSG_IS_SO(sizeof(msg_config) == 44);
 MSG_IS_SO(sizeof(msg_change) == 32);
 MSG_IS_SO(offsetof(msg_change, number) == 4 && offsetof(msg_change, sel) == 12);

@@ -3,7 +3,7 @@
  *
  * With STATES a run ends at a choice at which another one stood before: with the same bytes in all
  * variables, on the stack and in the registers that a call keeps, so what may follow was run. Of
- * the bytes 64 mixed ones are kept: that two states are taken for one is a chance of 1 in 10^5 at
+ * the bytes 63 mixed bits are kept: that two states are taken for one is a chance of 1 in 10^5 at
  * ten million of them. Each run begins with all variables as they were at the start. */
 #include <setjmp.h>
 #include <stdbool.h>
