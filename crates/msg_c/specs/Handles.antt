@@ -16,6 +16,7 @@ use Rattle.msg_host.specs.Lookups.{AreRefusedLookups, AreRowsFound, AreTakenLook
 use Rattle.msg_host.specs.Named.{TellsAttachFault, attachment, exchange, ref_of}
 use Rattle.msg_host.specs.Opening.{OpensAs}
 use Rattle.msg_host.specs.View.{SenderView}
+use Rattle.msg_host.specs.WayBack as way_back
 use Rattle.msg_model.specs.State.{awaits}
 use Rattle.msg_runtime.specs.Calls.{AllAreOut, CachesNumber, RestsAs}
 use Rattle.msg_runtime.specs.Resting.{HaveAllSeen, IsLeastOut}
@@ -149,6 +150,10 @@ RefusesAttachmentIn was is class methods class_methods n = (v w : RuntimeView) �
 -- the changes that rows mean took what a handle holds from was to is, as one
 abbrev pub MakesRowsIn : List ChangeRow → RuntimeHandle → RuntimeHandle → Type 0
 MakesRowsIn rows was is = (v w : RuntimeView) → was.held.state ≡ Some v → is.held.state ≡ Some w → MakesRows rows v w
+
+-- these rows take the runtime in a handle back to what it was
+abbrev pub TakesBackIn : List ChangeRow → RuntimeHandle → RuntimeHandle → Type 0
+TakesBackIn rows was is = (v w : RuntimeView) → was.held.state ≡ Some v → is.held.state ≡ Some w → way_back.TakesBack rows v w
 
 -- rows are refused by the runtime in a handle: that of this place, for the fault of this number
 abbrev pub RefusesRowsIn : RuntimeHandle → List ChangeRow → ℕ → ℕ → Type 0

@@ -7,6 +7,7 @@ ghost use Rattle.msg_tables.specs.History.{holder, log, lookup, superclass};
 ghost use Rattle.msg_tables.specs.Refusal.{IsLog};
 ghost use Rattle.msg_cache.specs.Views.{classes};
 ghost use Rattle.msg_c.specs.Answers.{IsAsked, Shows, TellsFault, TellsNoHolder, TellsNoSuperclass};
+ghost use Rattle.msg_host.specs.Config.{IsHostOrigin};
 ghost use Rattle.msg_host.specs.Named.{ref_of};
 ghost use Rattle.msg_address.specs.Address.{IsNotNull};
 ghost use Rattle.msg_c.specs.Handles.{AnswersAsked, HasRuntime, IfAt, IfOpen};
@@ -58,6 +59,7 @@ pub extern "C" fn msg_change_count(
     ensures left { result ≢ 0 → count.new ≡ count.old }
     ensures done { IfOpen runtime.old (λ v. (result ≡ 0) × (count.new ≡ length v.keeper.history.changes)) }
     ensures accepted { IfAt runtime.old (λ h. IsLog (log h)) }
+    ensures hosts { IfAt runtime.old (λ h. IsHostOrigin h.origin) }
 {
     let Some(held) = runtime.take(alloc) else {
         return CLOSED;

@@ -1,12 +1,12 @@
 //! Several changes as one.
 
-ghost use Rattle.std.specs.Prelude.{◌≡◌, ◌≢◌, ◌<◌, ◌≤◌, ◌*◌, ◌⊎◌, None, length};
+ghost use Rattle.std.specs.Prelude.{◌≡◌, ◌≢◌, ◌<◌, ◌≤◌, ◌*◌, ◌⊎◌, None, length, take};
 ghost use Rattle.msg_cache.specs.Views.{classes};
 ghost use Rattle.msg_host.specs.Asking.{IsRefusal, want_of_memory, want_of_room};
 ghost use Rattle.msg_host.specs.Listing.{UndoesRows, WeighRows};
 ghost use Rattle.msg_c.specs.Answers.{runtime_arena};
 ghost use Rattle.msg_c.specs.Handles.{IfOpen, LacksMemoryIn, Leaves, LeavesNumbers, LeavesRests, MakesRowsIn};
-ghost use Rattle.msg_c.specs.Handles.{ReachesRowsIn, RefusesReachIn, RefusesRowsIn};
+ghost use Rattle.msg_c.specs.Handles.{ReachesRowsIn, RefusesReachIn, RefusesRowsIn, TakesBackIn};
 
 use crate::answer::CLOSED;
 use crate::runtime_handle::RuntimeHandle;
@@ -65,6 +65,7 @@ pub extern "C" fn msg_change_all_with_undo(
     ensures left { result ≢ 0 → Leaves runtime.old runtime.new }
     ensures made { result ≡ 0 → MakesRowsIn changes.now runtime.old runtime.new }
     ensures undo { result ≡ 0 → IfOpen runtime.old (λ v. UndoesRows changes.now v.keeper.history undo.new undone.new) }
+    ensures back { result ≡ 0 → TakesBackIn (take undone.new undo.new) runtime.old runtime.new }
     ensures room { result ≡ want_of_room → length undo.old < undone.new }
     ensures wanted { result ≡ want_of_room
         → IfOpen runtime.old (λ v. WeighRows changes.now v.keeper.history undone.new) }

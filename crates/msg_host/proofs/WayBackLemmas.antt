@@ -1,5 +1,5 @@
 -- What rows mean can be taken back.
-use Rattle.std.proofs.Common.{◌≡◌, ℕ, List, [], ◌∷◌, Bool, true, false, Result, Ok, Err, ◌+◌, length, length-append, refl, sym, ap, ◌∙◌, arith}
+use Rattle.std.proofs.Common.{◌≡◌, ℕ, List, [], ◌∷◌, Bool, true, false, Result, Ok, Err, ◌+◌, length, length-append, take, refl, sym, ap, ◌∙◌, arith}
 use Rattle.std.specs.Prelude.{◌&&◌, ◌==◌, nat_lt, if◌then◌else◌}
 use Rattle.std.proofs.lemmas.Bool.Decides.{nat_tests}
 use Rattle.std.specs.List.{list_all}
@@ -11,14 +11,17 @@ use Rattle.msg_tables.specs.declared.change.Change.{Change}
 use Rattle.msg_tables.specs.History.{History, log}
 use Rattle.msg_tables.specs.Log.{Log, and_then}
 use Rattle.msg_tables.specs.Made.{and_as_one}
+use Rattle.msg_tables.specs.Refusal.{IsLog}
 use Rattle.msg_tables.specs.Several.{and_all}
 use Rattle.msg_tables.proofs.HistoryLemmas.{log-all}
 use Rattle.msg_tables.specs.declared.change.Change.TheVariants.{Add, Replace, SetImp, Attach, Remove}
-use Rattle.msg_host.specs.Config.{host_origin}
-use Rattle.msg_host.specs.Listing.{AreMeant, change_in, change_of, exchange_of, method_in, both}
+use Rattle.msg_host.specs.Config.{IsHostOrigin, host_origin}
+use Rattle.msg_host.specs.WayBack.{EveryListHasWayBack, TakesBack}
+use Rattle.msg_host.specs.Listing.{AreMeant, MakesRows, UndoesRows, change_in, change_of, exchange_of, method_in, both}
 use Rattle.msg_host.specs.declared.config.HostConfig.{HostConfig}
 use Rattle.msg_host.specs.declared.fault.AskFault.{AskFault}
 use Rattle.msg_host.specs.declared.listing.ChangeRow.{ChangeRow}
+use Rattle.msg_runtime.specs.View.{RuntimeView}
 
 -- ---- selectors that rows attach are numbered from 1
 
@@ -93,3 +96,11 @@ length-all h (x ∷ xs) =
     let rest = length-all (and_then h x) xs in
     let one = length-append h.changes (x ∷ []) in
     omega (arith, rest, one)
+
+-- ---- a runtime's own list
+
+-- the rows that were written when a list was made take it back
+pub taken_back : (v w : RuntimeView) (rows undo : List ChangeRow) (n : ℕ) → EveryListHasWayBack → IsHostOrigin v.keeper.history.origin → IsLog (log v.keeper.history)
+    → MakesRows rows v w → UndoesRows rows v.keeper.history undo n → TakesBack (take n undo) v w
+taken_back v w rows undo n law hosts accepted made undoes =
+    law hosts.config v w rows undo n (record { within = hosts.within; origin = hosts.origin; log = accepted }) made undoes

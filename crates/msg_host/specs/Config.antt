@@ -1,5 +1,5 @@
 -- What a host asks for, and what is opened for it.
-use Rattle.std.specs.Prelude.{ℕ, ◌==◌, ◌||◌, nat_lt, if◌then◌else◌, Bool, List, [], ◌∷◌, None, drop, slice_index_or}
+use Rattle.std.specs.Prelude.{ℕ, ◌≡◌, ◌==◌, ◌||◌, nat_lt, if◌then◌else◌, Bool, false, List, [], ◌∷◌, None, drop, slice_index_or}
 use Rattle.std.specs.List.{list_all, list_any}
 use Rattle.msg_tables.specs.Origin.{OriginView}
 use Rattle.msg_tables.specs.declared.limits.Limits.{Limits}
@@ -64,3 +64,9 @@ are_beyond arrays = list_any (λ count. nat_lt MOST_ARRAYS count) arrays
 -- a field is beyond its most
 abbrev pub is_beyond : HostConfig → Bool
 is_beyond config = nat_lt MOST_CLASSES config.classes || nat_lt MOST_SENDERS config.senders || are_beyond config.arrays
+
+-- Some config that is opened has this origin.
+pub record IsHostOrigin (o : OriginView) : Type 0 where
+  pub config : HostConfig
+  pub within : is_beyond config ≡ false
+  pub origin : o ≡ host_origin config

@@ -4,6 +4,7 @@ use Rattle.std.specs.Arc.{arc_value}
 use Rattle.msg_tables.specs.declared.limits.TheConstants.{MAX_CLASSES}
 use Rattle.msg_cache.specs.declared.view.TurnAt.TheVariants.{Away}
 use Rattle.msg_cache.specs.Views.{IsSenderOf, classes}
+use Rattle.msg_host.specs.Config.{IsHostOrigin}
 use Rattle.msg_host.specs.View.{SenderView}
 use Rattle.msg_runtime.specs.View.{RuntimeView}
 use Rattle.msg_host.specs.declared.runtime.HostedRuntime.TheInside.{Inside as RuntimeInside}
@@ -21,6 +22,7 @@ pub record AreOfOne (r : RuntimeInside) : Type 0 where
   pub classes : r.classes ≡ classes r.runtime.arena
   pub few_classes : r.classes ≤ MAX_CLASSES
   pub history : r.runtime.keeper.history.origin ≡ r.runtime.arena.key.origin
+  pub hosts : IsHostOrigin r.runtime.arena.key.origin
 
 -- the contracts' view of a sender
 abbrev pub sender_view : SenderInside → SenderView

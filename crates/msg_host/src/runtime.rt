@@ -21,7 +21,7 @@ ghost use Rattle.msg_runtime.specs.Calls.{AllAreOut, CachesAnswer, HoldsRoomFor,
 ghost use Rattle.msg_host.specs.Asking.{IsLeft};
 ghost use Rattle.msg_runtime.specs.Parts.{IsNew};
 ghost use Rattle.msg_runtime.specs.declared.runtime.TheConstants.{OPENING_ENTRIES};
-ghost use Rattle.msg_host.specs.Config.{is_beyond};
+ghost use Rattle.msg_host.specs.Config.{IsHostOrigin, is_beyond};
 ghost use Rattle.msg_host.specs.Opening.{OpensAs};
 ghost use Rattle.msg_host.specs.declared.fault.OpenFault.{OpenFault};
 ghost use Rattle.msg_host.specs.declared.fault.SenderFault.{SenderFault};
@@ -183,6 +183,7 @@ impl HostedRuntime {
     pub fn count(&self) -> u64
         ensures count { result ≡ length self.now.keeper.history.changes }
         ensures accepted { IsLog (log self.now.keeper.history) }
+        ensures hosts { IsHostOrigin self.now.keeper.history.origin }
     {
         self.runtime.count()
     }

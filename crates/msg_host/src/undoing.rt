@@ -5,8 +5,10 @@ ghost use Rattle.msg_tables.specs.Journal.{undo_journal};
 ghost use Rattle.msg_host.specs.Asking.{IsLeft, IsRefusal, want_of_room};
 ghost use Rattle.msg_host.specs.Listing as spec;
 ghost use Rattle.msg_host.specs.Listing.{AreMeant, AreRefusedRows, LackMemoryIf, MakesRows, UndoesRows, WeighRows};
+ghost use Rattle.msg_host.specs.WayBack.{TakesBack};
 
 use crate::fault::NO_ROOM;
+use crate::laws::every_list_of_rows_has_a_way_back;
 use crate::listing::{ChangeRow, RowsUnmade};
 use crate::runtime::HostedRuntime;
 use msg_names::{ClassRef, Selector};
@@ -86,7 +88,7 @@ impl HostedRuntime {
     /// number. If `undo` has fewer places, it returns 76 and does nothing, and `undone` is the
     /// number that is needed. There is one row for each row of the tables that the list adds,
     /// rewrites or removes, and for each class that it makes or disposes of.
-    #[tactic(auto, using(crate::proofs::ListingLemmas::rows_undone))]
+    #[tactic(auto, using(crate::proofs::ListingLemmas::rows_undone, crate::proofs::WayBackLemmas::taken_back))]
     pub fn make_all_with_undo(
         &mut self,
         rows: &[ChangeRow],
@@ -99,6 +101,7 @@ impl HostedRuntime {
         ensures rested { self.new.rested ≡ self.old.rested }
         ensures made { result ≡ 0 → MakesRows rows.now self.old self.new }
         ensures undo { result ≡ 0 → UndoesRows rows.now self.old.keeper.history undo.new undone.new }
+        ensures back { result ≡ 0 → TakesBack (take undone.new undo.new) self.old self.new }
         ensures within { result ≡ 0 → undone.new ≤ length undo.new }
         ensures left { result ≢ 0 → IsLeft self.old self.new }
         ensures room { result ≡ want_of_room → length undo.old < undone.new }
@@ -110,6 +113,8 @@ impl HostedRuntime {
         ensures fault { IsRefusal result → AreRefusedRows rows.now self.old.keeper.history place.new result }
         ensures memory { LackMemoryIf rows.now self.old place.new result }
     {
+        every_list_of_rows_has_a_way_back();
+        let _accepted = self.count();
         match self.change_rows(rows, undo.len()) {
             Ok(()) => {}
             Err(RowsUnmade::Fault(fault)) => return fault.tell(place),

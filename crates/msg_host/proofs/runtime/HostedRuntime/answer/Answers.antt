@@ -6,6 +6,7 @@ use Rattle.msg_cache.specs.declared.view.KeeperView.{KeeperView}
 use Rattle.msg_runtime.specs.Calls.{CachesAnswer}
 use Rattle.msg_reader.specs.Notes.{StayStamped}
 use Rattle.msg_runtime.specs.View.{RuntimeView}
+use Rattle.msg_host.specs.Config.{IsHostOrigin}
 use Rattle.msg_host.proofs.runtime.HostedRuntime.answer.Goals as goal
 
 -- a fill leaves the turn away
@@ -23,6 +24,7 @@ invariant_of-self c =
       classes = c.self.invariant.classes ∙ ap classes (sym e.arena);
       few_classes = c.self.invariant.few_classes;
       history = ap (λ (h : History). h.origin) e.history ∙ c.self.invariant.history ∙ ap (λ (a : ArenaView). a.key.origin) (sym e.arena);
+      hosts = subst (λ (a : ArenaView). IsHostOrigin a.key.origin) (sym e.arena) c.self.invariant.hosts;
     }
 
 pub returns-clause-cached : goal.returns-clause-cached

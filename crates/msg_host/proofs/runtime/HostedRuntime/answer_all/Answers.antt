@@ -5,6 +5,7 @@ use Rattle.msg_reader.specs.Notes.{StayStamped}
 use Rattle.msg_reader.specs.Several.{AreNotedOrAt}
 use Rattle.msg_runtime.specs.View.{RuntimeView}
 use Rattle.msg_host.specs.View.{SenderView}
+use Rattle.msg_host.specs.Config.{IsHostOrigin}
 use Rattle.msg_host.proofs.runtime.HostedRuntime.answer_all.Goals as goal
 
 pub invariant_of-self : goal.invariant_of-self
@@ -17,6 +18,7 @@ invariant_of-self g c =
       classes = c.self.invariant.classes ∙ ap classes (sym e.arena);
       few_classes = c.self.invariant.few_classes;
       history = ap (λ (h : History). h.origin) e.history ∙ c.self.invariant.history ∙ ap (λ (a : ArenaView). a.key.origin) (sym e.arena);
+      hosts = subst (λ (a : ArenaView). IsHostOrigin a.key.origin) (sym e.arena) c.self.invariant.hosts;
     }
 
 pub returns-clause-stamped : goal.returns-clause-stamped
