@@ -219,8 +219,9 @@ class _Shared:
         self.handle = _header.msg_runtime()
         self.lock = threading.RLock()
         words = ctypes.cast(ctypes.byref(config), ctypes.POINTER(ctypes.c_uint32))
-        _errors.must(self.library.msg_open_words(self.handle, words, ctypes.sizeof(config) // 4))
+        # first, since a signal's handler may raise behind the call: one that is closed stays so
         _at_collection(self, self.library.msg_close, self.handle)
+        _errors.must(self.library.msg_open_words(self.handle, words, ctypes.sizeof(config) // 4))
 
 
 class Runtime:
@@ -515,7 +516,6 @@ class Sender:
             raise NoMemoryError() from None
         self._thread = threading.current_thread()
         self._at = ctypes.pointer(self._raw)
-        # first, since a signal's handler may raise behind the call: one that is closed stays so
         self._finalizer = _at_collection(self, _close_sender, shared, self._raw)
         with shared.lock:
             _errors.must(shared.library.msg_sender_open(shared.handle, self._at))
@@ -536,7 +536,8 @@ class Sender:
         self._own()
         if not self._finalizer.alive:
             raise ClosedError()
-        self._finalizer()
+        _close_sender(self._shared, self._raw)  # again where a signal's handler raised in it
+        self._finalizer.detach()
 
     def adopt(self) -> None:
         """The calling thread is the sender's from now on. The one that had it uses it no more."""
@@ -646,8 +647,8 @@ class Texts:
             _header.msg_texts(),
             threading.RLock(),
         )
-        _errors.must(self._library.msg_texts_open(self._handle))
         _at_collection(self, self._library.msg_texts_close, self._handle)
+        _errors.must(self._library.msg_texts_open(self._handle))
 
     def __enter__(self) -> Texts:
         return self

@@ -42,7 +42,7 @@ int main(void)
     printf("named: %d by %d, then %s, %d by %d, then %s\n", objc_sizeof_type(named),
            objc_alignof_type(named), second, objc_sizeof_type(second), objc_alignof_type(second),
            objc_skip_typespec(second));
-    printf("void: %d\n", objc_sizeof_type("v"));
+    printf("void: %d, promoted %d\n", objc_sizeof_type("v"), objc_promoted_size("v"));
     struct objc_struct_layout layout;
     unsigned int offset, align, size;
     const char *type;
