@@ -474,6 +474,20 @@ class Calls(unittest.TestCase):
             for _ in range(20_000):
                 self.assertEqual(1, texts.intern(b"value"))
 
+    def test_a_close_that_a_handler_ends(self):
+        def raises(*_):
+            raise KeyboardInterrupt
+
+        with self.opened(senders=1) as runtime:
+            sender, closes = runtime.sender(), yeldrost._close_sender
+            yeldrost._close_sender = raises
+            try:
+                self.assertRaises(KeyboardInterrupt, sender.close)
+            finally:
+                yeldrost._close_sender = closes
+            sender.close()
+            runtime.sender().close()
+
     def test_the_end_of_the_interpreter(self):
         program = ENDING.format(self.holds_gil)
         self.assertEqual(0, subprocess.run([sys.executable, "-c", program], timeout=60).returncode)
