@@ -219,7 +219,7 @@ class _Shared:
         self.handle = _header.msg_runtime()
         self.lock = threading.RLock()
         words = ctypes.cast(ctypes.byref(config), ctypes.POINTER(ctypes.c_uint32))
-        # first, since a signal's handler may raise behind the call: one that is closed stays so
+        # Before the open: a signal handler may raise right after it. Closing twice is harmless.
         _at_collection(self, self.library.msg_close, self.handle)
         _errors.must(self.library.msg_open_words(self.handle, words, ctypes.sizeof(config) // 4))
 
