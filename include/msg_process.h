@@ -117,10 +117,11 @@ uint32_t msg_process_away(void);
  * rested at the least count, or 0 if all have rested since the last change.
  *
  * Faults: MSG_NONE if some thread's end can't be told: the C library had no
- * memory for that, or the thread found something later than in the second round
- * of its destructors. It is then returned until the process ends, and no more
- * old code may go. MSG_CLOSED before the start, and MSG_LOCK_HELD under the
- * lock.
+ * memory for that, or a thread that had found before its destructors found
+ * something later than in their second round. It is then returned until the
+ * process ends, and no more old code may go. MSG_CLOSED before the start, and
+ * MSG_LOCK_HELD under the lock. A thread that broke the rule of first finds
+ * above may be named after its end, or end the process here.
  * Cost: a walk over the threads that count, under the lock. */
 uint32_t msg_process_seen_by_all(uint64_t *changes, uint64_t *thread);
 
@@ -135,6 +136,8 @@ enum { MSG_WAITS_NOT, MSG_WAITS, MSG_WAITS_A_WHILE };
  * Faults: those of msg_process_find, and MSG_LOCK_HELD if the lock isn't to be
  * had so. */
 uint32_t msg_process_find_slowly(uint64_t key, unsigned waits, uint32_t *imp);
+/* The same for a caller who has asked the second note, too. */
+uint32_t msg_process_find_unnoted(uint64_t key, unsigned waits, uint32_t *imp);
 /* Finds several lookups at one version, as msg_find_all does, by the calling
  * thread's sender. `imps` has `count` entries.
  *

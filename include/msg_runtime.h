@@ -1,9 +1,11 @@
 /* Message dispatch with machine-checked proofs, for hosts in C.
  *
  * docs/EMBEDDING.md takes you to a first send. This header is the reference.
- * It says of each call what it does, its parameters, its faults and its cost;
- * a group's title says whether its calls want the lock. What a call returns is
- * proved of the Rattle code in crates/msg_c, clause by clause.
+ * It says of each call what it does, its parameters and its faults, and its
+ * cost if that grows with something; docs/PERFORMANCE.md has figures. A group's
+ * title says whether its calls want the lock, and may say what all of them
+ * cost. What a call returns is proved of the Rattle code in crates/msg_c,
+ * clause by clause.
  *
  * A runtime opens without classes. All numbers are the host's to give:
  *
@@ -258,7 +260,9 @@ uint32_t msg_open_words(msg_runtime *runtime, const uint32_t *config,
                         size_t words);
 /* Closes a runtime and gives its memory back. Senders that are still open keep
  * what they share with it, and may be closed later. A find by one of them may
- * still hit: stop the threads that send first. */
+ * still hit: stop the threads that send first.
+ *
+ * Cost: it gives back the memory of each method list. */
 uint32_t msg_close(msg_runtime *runtime);
 
 /* ---- asking, under the lock ---- */
@@ -412,7 +416,9 @@ uint32_t msg_dispose_class(msg_runtime *runtime, uint32_t number);
  *
  * Faults: MSG_NO_SUCH_CLASS, MSG_NO_SUCH_IMP, MSG_METHOD_PRESENT,
  * MSG_NO_METHOD, MSG_DUPLICATE_CLASS, MSG_CLASS_IN_USE, MSG_LIMIT,
- * MSG_CHANGE_MEMORY, MSG_NO_SELECTOR, MSG_BAD_CHANGE. */
+ * MSG_CHANGE_MEMORY, MSG_NO_SELECTOR, MSG_BAD_CHANGE.
+ * Cost: at most that of its changes one by one, and memory if there is less
+ * room than what they write. */
 uint32_t msg_change_all(msg_runtime *runtime, const msg_change *changes,
                         size_t count, size_t *place);
 /* msg_change_all that also writes a way back: `undone` changes in `undo`,
@@ -429,7 +435,8 @@ uint32_t msg_change_all(msg_runtime *runtime, const msg_change *changes,
  *
  * Faults: those of msg_change_all, and MSG_NO_ROOM if the way back has more
  * than `room` changes. Then nothing is made, and `undone` is set to how much
- * room is wanted. */
+ * room is wanted.
+ * Cost: that of msg_change_all, and a store for each change of the way back. */
 uint32_t msg_change_all_with_undo(msg_runtime *runtime,
                                   const msg_change *changes, size_t count,
                                   msg_change *undo, size_t room, size_t *undone,
@@ -457,11 +464,15 @@ uint32_t msg_words(msg_runtime *runtime, const uint64_t **words);
 /* Opens a sender for one thread. It has seen all changes so far.
  *
  * Faults: MSG_ALREADY_OPEN, MSG_NO_MEMORY, and MSG_NO_SENDER, only if as many
- * are open as the config says. A sender that is closed counts no more. */
+ * are open as the config says. A sender that is closed counts no more.
+ * Cost: it goes over the sender numbers from the least that may be free on, and
+ * takes some bytes of memory. */
 uint32_t msg_sender_open(msg_runtime *runtime, msg_sender *sender);
 /* Closes a sender. `runtime` is the handle that opened it, even if that is
  * closed by now: only a sender that isn't open is MSG_CLOSED. A handle that is
- * closed may be opened again once its senders are closed, too. */
+ * closed may be opened again once its senders are closed, too.
+ *
+ * Cost: a walk over the parts of its notes that were written. */
 uint32_t msg_sender_close(msg_runtime *runtime, msg_sender *sender);
 /* Looks a method up after all changes so far (lookUpImpOrForward), which the
  * sender has then seen. `imp` is set as by msg_lookup. The sender notes it, and
@@ -478,7 +489,8 @@ uint32_t msg_fill(msg_runtime *runtime, msg_sender *sender, uint32_t number,
  * both.
  *
  * Faults: MSG_NO_CLASS, MSG_NO_SELECTOR, MSG_BAD_CHANGE, MSG_NO_ROOM, as of
- * msg_probe_all. */
+ * msg_probe_all.
+ * Cost: for each lookup that of msg_fill. */
 uint32_t msg_fill_all(msg_runtime *runtime, msg_sender *sender,
                       const msg_lookup_row *lookups, size_t count,
                       uint32_t *imps, size_t room, size_t *place);
@@ -881,7 +893,7 @@ static inline uint32_t msg_find(msg_runtime *runtime, MSG_LOCK_TYPE *lock,
  * the lock.
  *
  * Faults: MSG_NO_CLASS, MSG_NO_SELECTOR, MSG_BAD_CHANGE, as of msg_probe_all.
- */
+ * Cost: msg_probe_all, and after a miss the lock and msg_fill_all. */
 static inline uint32_t msg_find_all(msg_runtime *runtime, MSG_LOCK_TYPE *lock,
                                     msg_sender *sender,
                                     const msg_lookup_row *lookups, size_t count,

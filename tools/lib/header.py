@@ -8,7 +8,8 @@ from words import ROOT, text_at
 HEADER = f"{ROOT}/include/msg_runtime.h"
 PROCESS = f"{ROOT}/include/msg_process.h"
 COMMENT = re.compile(r"/\*.*?\*/", re.S)
-CALL = re.compile(r"^(static inline )?((?:const )?\w+ \**)(msg_\w+)\(([^)]*)\)", re.M)
+CALL = re.compile(r"^(static inline )?(?:__attribute__\(\(\w+\)\) )?"
+                  r"((?:const )?\w+ \**)(msg_\w+)\(([^)]*)\)", re.M)
 STRUCTURE = re.compile(r"typedef struct \{([^}]*)\} (\w+);|^struct (\w+) \{([^}]*)\};", re.M)
 CONSTANT = re.compile(r"(\w+) = (\d+)\b")
 # `parameters` are pairs of a type and a name; an array has the `count` of its brackets

@@ -9,11 +9,12 @@ from typing import NamedTuple
 from words import ROOT, text_at
 
 CRATES = os.path.join(ROOT, "crates")
-NAME = r"[A-Za-z_][\w'\-]*"
+NAME = r"[A-Za-z_][\w'\-?]*"
 TOKEN = re.compile(rf"(?<![\w'.\-])((?:{NAME}\.)*{NAME}|◌?[^\w\s(){{}}\[\],;:.'\"]+◌?)")
 IMPORT = re.compile(r"(?m)^ *(?:ghost )?use (\w+(?:\.\w+)*)(?:\.\{([^}]*)\}| as (\w+));? *$")
 BEGIN = re.compile(r"^(?:abbrev|unfoldable|pub|mutual|infix[lr]?)\b")
 HEAD = re.compile(rf"^\s*((?:abbrev |unfoldable |pub |record |data )+)({NAME}|◌\S+◌)")
+MODULE = re.compile(r"^module _ .* where$")
 MAKERS = re.compile(rf"^\s+({NAME}(?: {NAME})*) :")
 MARKS = ("TheVariants", "TheInside", "TheOpen", "TheConstants")
 RUST = re.compile(r"(?m)^(pub(?:\([^)]*\))? )?(struct|enum|trait|const) (\w+)")
@@ -23,13 +24,15 @@ RUST_USE = re.compile(r"(?m)^use ((?:crate|msg_\w+)(?:::\w+)*)::(?:(\w+)|\{([^}]
 
 
 class Item(NamedTuple):
-    """One definition, with its comment. `names` are those by which others cite it."""
+    """One definition, with its comment. `names` are those by which others cite it, and `within` is
+    the head of its module, which has parameters."""
 
     file: str
     line: int
     names: tuple
     comment: str
     text: str
+    within: str = ""
 
     @property
     def crate(self):
@@ -139,12 +142,29 @@ def blocks(lines):
             comment = []
 
 
+def out_of_modules(lines):
+    """(line, the head of its module) of each line, without the margin that a module has."""
+    head = ""
+    for line in lines:
+        if line.strip() and not line.startswith(" "):
+            head = line if MODULE.match(line) else ""
+        yield ("", head) if line == head else (line[2:] if head else line, head)
+
+
 @functools.lru_cache(None)
 def definitions(path):
     """The definitions of one file of specs/, in its order."""
     lines = IMPORT.sub(lambda it: "\n" * it[0].count("\n"), text_of(path)).split("\n")
-    found = ((it[0], names_in(it[2]), "\n".join(it[1]), it[2]) for it in blocks(lines))
+    flat, heads = zip(*out_of_modules(lines))
+    found = ((at, names_in(text), "\n".join(comment), text, heads[at - 1])
+             for at, comment, text in blocks(list(flat)))
     return tuple(Item(path, *it) for it in found if it[1])
+
+
+def declared(path):
+    """The names that a file of specs/ declares, at any margin."""
+    heads = map(HEAD.match, text_of(path).split("\n"))
+    return [it[2] for it in heads if it and it[1] != "pub " and it[2] != "mutual"]
 
 
 def model_of(text, name):
@@ -230,7 +250,7 @@ def rust_scope(path):
 
 def named_in(item):
     """(items of ours, names of the kit) that a definition cites."""
-    plain = re.sub(r"--[^\n]*|//[^\n]*|\"[^\"]*\"", " ", item.text)
+    plain = re.sub(r"--[^\n]*|//[^\n]*|\"[^\"]*\"", " ", f"{item.within} {item.text}")
     known, aliases = scope(item.file)
     types = rust_scope(item.file) if item.is_rust else {}
     ours, kit = [], []

@@ -1,7 +1,7 @@
 /* The way of a send that hits, without the lock: what the thread's own sender has noted. Another
- * send goes on by msg_process_find_slowly, which looks at the place's second note first. Trusted:
- * that a note is of its key and as new as its stamp, in whatever order other threads and handlers
- * of signals come between. */
+ * send goes on by msg_process_find_unnoted, or by msg_process_find_slowly. Trusted: that a note is
+ * of its key and as new as its stamp, in whatever order other threads and handlers of signals come
+ * between. */
 #ifndef MSG_OBJC_SEAT_H
 #define MSG_OBJC_SEAT_H
 
@@ -25,11 +25,39 @@ static inline IMP shim_function(uint32_t imp)
                     [word] "i"(offsetof(msg_sender, notes) + offsetof(msg_note, field))
 /* clang-format on */
 
-/* What the first note at the place of a class and a selector says (msg_said), by all changes that
- * had returned. First it is seen that the note isn't older than the stamp of its class; then one
- * load has the lookup and the number. So a handler of a signal that notes another there comes
- * before both or after both; or what is said was found by it, just now (msg_stamp_of). Until a
- * class was initialized its key is 0, and the sum is that of class number 0, which isn't made. */
+/* The library says the same, unless a handler's note is there by now. */
+static inline bool shim_is_said(const msg_sender *sender, const msg_note *note, uint64_t key,
+                                uint64_t stamp, uint64_t said)
+{
+    return said >= MSG_SAID_LONG ||
+           msg_recall(sender, MSG_SLOT_OF(key), MSG_SEL_OF(key), stamp) == said ||
+           msg_said(note, key) != said || note->count < stamp;
+}
+
+/* What a note says of a lookup (msg_said), by all changes that had returned. First it is seen that
+ * the note isn't older than the stamp of its class; then one load has the lookup and the number. So
+ * a handler of a signal that notes another there comes before both or after both; or what is said
+ * was found by it, just now (msg_stamp_of). */
+static inline uint64_t shim_said_in(const msg_sender *sender, const msg_note *note, uint64_t key)
+{
+    uint64_t stamp = msg_process_stamp(note);
+    if (__builtin_expect(note->count < stamp, 0)) return UINT64_MAX;
+    atomic_signal_fence(memory_order_seq_cst);
+    uint64_t says = msg_said(note, key);
+    MSG_TEST(shim_is_said(sender, note, key, stamp, says));
+    return says;
+}
+
+/* The same of the second note at the place of a class and a selector. */
+static inline uint64_t shim_said_second(Class class_, SEL sel)
+{
+    const msg_sender *sender = __atomic_load_n(&msg_process_own.sender, __ATOMIC_RELAXED);
+    uint64_t key = __atomic_load_n(&class_->key, __ATOMIC_ACQUIRE) + sel->name.key;
+    return shim_said_in(sender, MSG_SECOND_NOTE_OF(sender, key), key);
+}
+
+/* The same of the first one. Until a class was initialized its key is 0, and the sum is that of
+ * class number 0, which isn't made. */
 static inline uint64_t shim_said_at(Class class_, SEL sel)
 {
     const msg_sender *sender = __atomic_load_n(&msg_process_own.sender, __ATOMIC_RELAXED);
@@ -47,15 +75,10 @@ static inline uint64_t shim_said_at(Class class_, SEL sel)
     /* clang-format on */
     if (__builtin_expect(is_old, 0)) return UINT64_MAX;
     __asm__ volatile("subq " AT_NOTE ", %0" : "+r"(said) : NOTE(seal) : "cc", "memory");
+    MSG_TEST(shim_is_said(sender, note, key, stamp, said));
 #else
-    uint64_t stamp = msg_process_stamp(note);
-    if (__builtin_expect(note->count < stamp, 0)) return UINT64_MAX;
-    atomic_signal_fence(memory_order_seq_cst);
-    uint64_t said = msg_said(note, key);
+    uint64_t said = shim_said_in(sender, note, key);
 #endif
-    MSG_TEST(said >= MSG_SAID_LONG || /* or a handler's by now */
-             msg_recall(sender, MSG_SLOT_OF(key), MSG_SEL_OF(key), stamp) == said ||
-             msg_said(note, key) != said || note->count < stamp);
     return said;
 }
 

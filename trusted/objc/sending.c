@@ -76,16 +76,17 @@ static __attribute__((noinline, cold)) IMP find_in_rows(Class class_, SEL sel, u
 
 /* What the calling thread's sender finds by their key, by all changes that returned before; NULL is
  * forwarding. */
-static inline IMP find_by_key(Class class_, SEL sel, uint64_t key)
+static inline IMP find_by_key(Class class_, SEL sel, uint64_t key, bool unnoted)
 {
-    uint32_t imp, fault = msg_process_find_slowly(key, MSG_WAITS_A_WHILE, &imp);
+    uint32_t imp, fault = unnoted ? msg_process_find_unnoted(key, MSG_WAITS_A_WHILE, &imp)
+                                  : msg_process_find_slowly(key, MSG_WAITS_A_WHILE, &imp);
     return __builtin_expect(!fault, 1) ? shim_function(imp) : find_in_rows(class_, sel, fault);
 }
 
 static __attribute__((noinline)) IMP find(Class class_, SEL sel)
 {
     if (shim_in_construction(class_)) return find_in_rows(class_, sel, MSG_LOCK_HELD);
-    return find_by_key(class_, sel, shim_key(class_->record, sel));
+    return find_by_key(class_, sel, shim_key(class_->record, sel), false);
 }
 
 IMP shim_look(Class class_, SEL sel)
@@ -149,15 +150,24 @@ static __attribute__((noinline, cold)) IMP find_first(Class class_, SEL sel)
     return imp ? imp : find_resolved(class_, sel);
 }
 
-/* Where the first note says nothing. A class that was initialized has its part of keys. */
-static __attribute__((noinline)) IMP find_from(id receiver, SEL sel, Class class_)
+/* Where neither note has a function's number; `said` is of the second one. A class that was
+ * initialized has its part of keys. */
+static __attribute__((noinline)) IMP find_slowly(id receiver, SEL sel, Class class_, uint64_t said)
 {
     uint64_t of_class = LOAD(class_->key);
     bool is_first = __builtin_expect(!of_class, 0);
-    IMP imp =
-        is_first ? find_first(class_, sel) : find_by_key(class_, sel, of_class + sel->name.key);
+    IMP imp = is_first ? find_first(class_, sel)
+                       : find_by_key(class_, sel, of_class + sel->name.key, said > MSG_SAID_NONE);
     if (__builtin_expect(!imp, 0) && !is_first) imp = find_resolved(class_, sel);
     return __builtin_expect(imp != NULL, 1) ? imp : shim_forward(receiver, sel);
+}
+
+/* Where the first note says nothing. */
+static __attribute__((noinline)) IMP find_from(id receiver, SEL sel, Class class_)
+{
+    uint64_t said = shim_said_second(class_, sel);
+    if (__builtin_expect(said < MSG_SAID_LONG, 1)) return shim_function((uint32_t)said);
+    return find_slowly(receiver, sel, class_, said);
 }
 
 /* Where the first note says that there is no method, or has a long number. */

@@ -222,6 +222,7 @@ static void close_others(void)
         if (seat == own) push(&seats, seat);
         else if (!kept || !atomic_load(&seat->asks)) free_seat(closed(seat));
     }
+    is_unsure = is_unsure && is_over; /* of the forking thread, perhaps */
     stays = stays_on ? &stay : NULL;
     stay.next = NULL;
     stay.at = &stays;
@@ -465,7 +466,8 @@ static inline bool second_says(uint64_t key, uint32_t *imp)
     return true;
 }
 
-static __attribute__((noinline)) uint32_t find_by_call(uint64_t key, unsigned waits, uint32_t *imp)
+__attribute__((noinline)) uint32_t msg_process_find_unnoted(uint64_t key, unsigned waits,
+                                                            uint32_t *imp)
 {
     const msg_sender *sender = __atomic_load_n(&msg_process_own.sender, __ATOMIC_RELAXED);
     if (__builtin_expect(sender == &nobody, 0)) return find_by_seat(NULL, key, waits, imp);
@@ -478,7 +480,7 @@ static __attribute__((noinline)) uint32_t find_by_call(uint64_t key, unsigned wa
 
 uint32_t msg_process_find_slowly(uint64_t key, unsigned waits, uint32_t *imp)
 {
-    return second_says(key, imp) ? (uint32_t)MSG_DONE : find_by_call(key, waits, imp);
+    return second_says(key, imp) ? (uint32_t)MSG_DONE : msg_process_find_unnoted(key, waits, imp);
 }
 
 uint32_t msg_process_find_all(const msg_lookup_row *lookups, size_t count, uint32_t *imps,

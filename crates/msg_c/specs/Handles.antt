@@ -11,7 +11,7 @@ use Rattle.msg_reader.specs.Cost.{ProbesAtMost, ProbesOnceAtMost}
 use Rattle.msg_reader.specs.Kept.{FindsUnprobed, HaveNotedSince, LoadsStamp}
 use Rattle.msg_reader.specs.Notes.{HaveNoted, IsRecalledSince}
 use Rattle.msg_host.specs.Asking.{AnswersChange, IsLeft}
-use Rattle.msg_host.specs.Listing.{AreRefusedRows, LackMemoryIf, MakesRows, ReachesRows, RefusesToReach}
+use Rattle.msg_host.specs.Listing.{AreRefusedRows, FlushesRows, LackMemoryIf, MakesRows, ReachesRows, RefusesToReach}
 use Rattle.msg_host.specs.Lookups.{AreRefusedLookups, AreRowsFound, AreTakenLookups, RowsAreNoted, RowsAreNotedOrAt, RowsKeepOthers, RowsLackOne, RowsMissOne}
 use Rattle.msg_host.specs.Named.{TellsAttachFault, attachment, exchange, ref_of}
 use Rattle.msg_host.specs.Opening.{OpensAs}
@@ -150,6 +150,11 @@ RefusesAttachmentIn was is class methods class_methods n = (v w : RuntimeView) �
 -- the changes that rows mean took what a handle holds from was to is, as one
 abbrev pub MakesRowsIn : List ChangeRow → RuntimeHandle → RuntimeHandle → Type 0
 MakesRowsIn rows was is = (v w : RuntimeView) → was.held.state ≡ Some v → is.held.state ≡ Some w → MakesRows rows v w
+
+-- of the runtime in a handle, the caches that the changes of rows affect are flushed, and the
+-- others are left as they were
+abbrev pub FlushesRowsIn : List ChangeRow → RuntimeHandle → RuntimeHandle → Type 0
+FlushesRowsIn rows was is = (v w : RuntimeView) → was.held.state ≡ Some v → is.held.state ≡ Some w → FlushesRows rows v w
 
 -- these rows take the runtime in a handle back to what it was
 abbrev pub TakesBackIn : List ChangeRow → RuntimeHandle → RuntimeHandle → Type 0

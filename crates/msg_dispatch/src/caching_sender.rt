@@ -80,8 +80,7 @@ impl<'d, N: ArenaName> CachingSender<'d, N> {
     }
 
     /// Returns what was noted of a lookup since the stamp of the class reference, which is loaded.
-    /// The lookup finds it at all changes, which the sender has then seen. The call waits for
-    /// nothing.
+    /// The lookup finds it at what the sender has then seen. The call waits for nobody.
     #[inline]
     pub fn recall(&mut self, class: ClassRef, sel: Selector) -> Option<ImpRef>
         requires class { class.class < class_total self.old.sender.seen.front.origin }

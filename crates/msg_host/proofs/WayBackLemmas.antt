@@ -1,22 +1,23 @@
 -- What rows mean can be taken back.
-use Rattle.std.proofs.Common.{◌≡◌, ℕ, List, [], ◌∷◌, Bool, true, false, Result, Ok, Err, ◌+◌, length, length-append, take, refl, sym, ap, ◌∙◌, arith}
+use Rattle.std.proofs.Common.{◌≡◌, ℕ, List, [], ◌∷◌, ◌++◌, append-nil, append_assoc, Bool, true, false, Result, Ok, Err, ◌+◌, length, length-append, take, refl, sym, ap, ◌∙◌, arith}
 use Rattle.std.specs.Prelude.{◌&&◌, ◌==◌, nat_lt, if◌then◌else◌}
 use Rattle.std.proofs.lemmas.Bool.Decides.{nat_tests}
 use Rattle.std.specs.List.{list_all}
 use Rattle.msg_names.specs.Number.{selector_number, imp_ref_of}
 use Rattle.msg_names.specs.declared.value.ClassRef.{ClassRef}
 use Rattle.msg_names.specs.declared.value.Selector.{Selector}
-use Rattle.msg_tables.specs.Undo.{AreFit, AreNumbered, are_numbered, covering}
+use Rattle.msg_tables.specs.Undo.{AreFit, AreNumbered, are_numbered, covering, undo, undo_all}
 use Rattle.msg_tables.specs.declared.change.Change.{Change}
 use Rattle.msg_tables.specs.History.{History, log}
-use Rattle.msg_tables.specs.Log.{Log, and_then}
+use Rattle.msg_tables.specs.After.{table_after}
+use Rattle.msg_tables.specs.Log.{Log, and_then, table_after_all}
 use Rattle.msg_tables.specs.Made.{and_as_one}
 use Rattle.msg_tables.specs.Refusal.{IsLog}
 use Rattle.msg_tables.specs.Several.{and_all}
 use Rattle.msg_tables.proofs.HistoryLemmas.{log-all}
 use Rattle.msg_tables.specs.declared.change.Change.TheVariants.{Add, Replace, SetImp, Attach, Remove}
 use Rattle.msg_host.specs.Config.{IsHostOrigin, host_origin}
-use Rattle.msg_host.specs.WayBack.{EveryListHasWayBack, TakesBack}
+use Rattle.msg_host.specs.WayBack.{EveryListHasWayBack, TakesBack, TwoListsGoBack}
 use Rattle.msg_host.specs.Listing.{AreMeant, MakesRows, UndoesRows, change_in, change_of, exchange_of, method_in, both}
 use Rattle.msg_host.specs.declared.config.HostConfig.{HostConfig}
 use Rattle.msg_host.specs.declared.fault.AskFault.{AskFault}
@@ -104,3 +105,11 @@ pub taken_back : (v w : RuntimeView) (rows undo : List ChangeRow) (n : ℕ) → 
     → MakesRows rows v w → UndoesRows rows v.keeper.history undo n → TakesBack (take n undo) v w
 taken_back v w rows undo n law hosts accepted made undoes =
     law hosts.config v w rows undo n (record { within = hosts.within; origin = hosts.origin; log = accepted }) made undoes
+
+-- ---- two lists as one
+
+pub two_back : TwoListsGoBack
+two_back t [] ys = sym (append-nil (undo_all t ys))
+two_back t (x ∷ xs) ys =
+    let next = table_after t x in
+    ap (λ zs. zs ++ undo t x) (two_back next xs ys) ∙ append_assoc (undo_all (table_after_all next xs) ys) (undo_all next xs) (undo t x)

@@ -1,10 +1,13 @@
 -- Each list of rows has a way back.
-use Rattle.std.specs.Prelude.{◌≡◌, ◌≤◌, ◌+◌, ℕ, List, None, false, length, take}
+use Rattle.std.specs.Prelude.{◌≡◌, ◌≤◌, ◌+◌, ◌++◌, ℕ, List, None, false, length, take}
 use Rattle.msg_names.specs.declared.value.ClassRef.{ClassRef}
 use Rattle.msg_tables.specs.History.{log, lookup}
+use Rattle.msg_tables.specs.Log.{table_after_all}
 use Rattle.msg_tables.specs.Made.{and_as_one}
 use Rattle.msg_tables.specs.Refusal.{IsLog}
+use Rattle.msg_tables.specs.Rows.{ClassTable}
 use Rattle.msg_tables.specs.Several.{refused_from}
+use Rattle.msg_tables.specs.Undo.{undo_all}
 use Rattle.msg_tables.specs.declared.change.Change.{Change}
 use Rattle.msg_runtime.specs.View.{RuntimeView}
 use Rattle.msg_host.specs.Config.{host_origin, is_beyond}
@@ -31,3 +34,8 @@ pub record IsHosts (config : HostConfig) (v : RuntimeView) : Type 0 where
 -- This holds for the rows that are written when a list of rows is made, directly after it.
 abbrev pub EveryListHasWayBack : Type 0
 EveryListHasWayBack = (config : HostConfig) (v w : RuntimeView) (rows undo : List ChangeRow) (n : ℕ) → IsHosts config v → MakesRows rows v w → UndoesRows rows v.keeper.history undo n → TakesBack (take n undo) v w
+
+-- Two lists that are made as one go back by the way back of the second, by the tables between them,
+-- and then by that of the first.
+abbrev pub TwoListsGoBack : Type 0
+TwoListsGoBack = (t : ClassTable) (xs ys : List Change) → undo_all t (xs ++ ys) ≡ undo_all (table_after_all t xs) ys ++ undo_all t xs

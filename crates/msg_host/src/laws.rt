@@ -1,6 +1,6 @@
-//! Laws of lists of rows.
+//! Laws of lists of changes, and of rows.
 
-ghost use Rattle.msg_host.specs.WayBack.{EveryListHasWayBack};
+ghost use Rattle.msg_host.specs.WayBack.{EveryListHasWayBack, TwoListsGoBack};
 
 use msg_tables::list_laws::{
     a_way_back_brings_back_each_lookup, a_way_back_is_accepted, a_way_back_wants_no_memory,
@@ -18,3 +18,9 @@ pub fn every_list_of_rows_has_a_way_back()
     a_way_back_brings_back_each_lookup();
     a_way_back_wants_no_memory();
 }
+
+/// The way back of two lists that are made as one is that of the second, and then that of the
+/// first.
+pub fn two_lists_go_back_one_after_another()
+    ensures { TwoListsGoBack }
+{}

@@ -4,7 +4,7 @@ ghost use Rattle.std.specs.Prelude.{◌≡◌, ◌≢◌, ◌<◌, ◌≤◌, �
 ghost use Rattle.msg_tables.specs.Journal.{undo_journal};
 ghost use Rattle.msg_host.specs.Asking.{IsLeft, IsRefusal, want_of_room};
 ghost use Rattle.msg_host.specs.Listing as spec;
-ghost use Rattle.msg_host.specs.Listing.{AreMeant, AreRefusedRows, LackMemoryIf, MakesRows, UndoesRows, WeighRows};
+ghost use Rattle.msg_host.specs.Listing.{AreMeant, AreRefusedRows, FlushesRows, LackMemoryIf, MakesRows, UndoesRows, WeighRows};
 ghost use Rattle.msg_host.specs.WayBack.{TakesBack};
 
 use crate::fault::NO_ROOM;
@@ -100,6 +100,7 @@ impl HostedRuntime {
         ensures given { self.new.keeper.given ≡ self.old.keeper.given }
         ensures rested { self.new.rested ≡ self.old.rested }
         ensures made { result ≡ 0 → MakesRows rows.now self.old self.new }
+        ensures flushed { result ≡ 0 → FlushesRows rows.now self.old self.new }
         ensures undo { result ≡ 0 → UndoesRows rows.now self.old.keeper.history undo.new undone.new }
         ensures back { result ≡ 0 → TakesBack (take undone.new undo.new) self.old self.new }
         ensures within { result ≡ 0 → undone.new ≤ length undo.new }

@@ -3,3 +3,4 @@ mod FlushedLemmas
 mod OneLemmas
 pub mod AloneLemmas
 pub mod RestingLemmas
+pub mod SparedLemmas

@@ -6,4 +6,5 @@ pub mod Inside
 pub mod Parts
 pub mod Reach
 pub mod Resting
+pub mod Spared
 pub mod View

@@ -4,9 +4,13 @@ ghost use Rattle.std.specs.Prelude.{◌≡◌, ◌<◌, length, true};
 ghost use Rattle.msg_names.specs.declared.value.ClassRef.{ClassRef};
 ghost use Rattle.msg_tables.specs.Origin.{class_total};
 ghost use Rattle.msg_tables.specs.Below.{covers};
+ghost use Rattle.msg_tables.specs.Chain.{is_member};
+ghost use Rattle.msg_tables.specs.Log.{chain_at};
+ghost use Rattle.msg_tables.specs.Marking.{is_of};
 ghost use Rattle.msg_cache.specs.Ours.{IsCold};
 ghost use Rattle.msg_runtime.specs.Flushed.{AreClasses, ClassIsFlushed, IsFlushedBelow, StayFlushed};
 ghost use Rattle.msg_runtime.specs.Parts.{IsKeeperOf, keeper_history, keeper_seats};
+ghost use Rattle.msg_runtime.specs.Spared.{AreSpared, SparesUnless};
 
 use msg_cache::{Arena, Keeper};
 use msg_names::ClassRef;
@@ -22,6 +26,7 @@ pub(crate) fn flush_class(keeper: &mut Keeper, arena: &Arena, class: u32, own: b
     ensures seats { keeper_seats keeper.new ≡ keeper_seats keeper.old }
     ensures flushed { ClassIsFlushed arena.now keeper.new class own meta }
     ensures others { StayFlushed arena.now keeper.old keeper.new }
+    ensures spared { SparesUnless (is_of class own meta) arena.now keeper.old keeper.new }
 {
     if own {
         keeper.chill(arena, ClassRef { class, meta: false });
@@ -41,6 +46,7 @@ fn flush_each(keeper: &mut Keeper, arena: &Arena, below: Below<'_>)
     ensures seats { keeper_seats keeper.new ≡ keeper_seats keeper.old }
     ensures flushed { (c : ClassRef) → covers below.entry c ≡ true → IsCold arena.now keeper.new c }
     ensures others { StayFlushed arena.now keeper.old keeper.new }
+    ensures spared { SparesUnless (covers below.entry) arena.now keeper.old keeper.new }
 {
     let own = below.has_classes();
     let meta = below.has_metaclasses();
@@ -61,6 +67,7 @@ pub(crate) fn flush_below(keeper: &mut Keeper, arena: &Arena, tables: &Tables, c
     ensures seats { keeper_seats keeper.new ≡ keeper_seats keeper.old }
     ensures flushed { IsFlushedBelow arena.now tables.now keeper.new class }
     ensures others { StayFlushed arena.now keeper.old keeper.new }
+    ensures spared { AreSpared arena.now tables.now keeper.old keeper.new (λ h c. is_member class (chain_at h c)) }
 {
     flush_each(keeper, arena, tables.below(class));
 }

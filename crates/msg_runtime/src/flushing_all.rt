@@ -1,6 +1,6 @@
 //! The caches that a list of changes flushes.
 
-ghost use Rattle.std.specs.Prelude.{◌≡◌, [], ◌∷◌, All, length};
+ghost use Rattle.std.specs.Prelude.{◌≡◌, [], ◌∷◌, All, false, length};
 ghost use Rattle.msg_names.specs.declared.value.ClassRef.{ClassRef};
 ghost use Rattle.msg_tables.specs.ChangeList.{change_of};
 ghost use Rattle.msg_tables.specs.Journal.{NamesListed};
@@ -10,6 +10,7 @@ ghost use Rattle.msg_tables.specs.Recent.{HasPlace};
 ghost use Rattle.msg_runtime.specs.Flushed.{AreFlushed, FirstAreFlushed, IsFlushedBelow, StayFlushed};
 ghost use Rattle.msg_runtime.specs.Parts.{IsKeeperOf, keeper_history, keeper_seats};
 ghost use Rattle.msg_runtime.specs.Reach.{flushes_all, is_flushed, is_set, is_set_alone};
+ghost use Rattle.msg_runtime.specs.Spared.{AreSpared};
 
 use crate::flushing::{flush_all, flush_below, flush_class};
 use msg_cache::{Arena, Keeper};
@@ -27,6 +28,7 @@ fn flush_entry(keeper: &mut Keeper, arena: &Arena, tables: &Tables, entry: Entry
     ensures seats { keeper_seats keeper.new ≡ keeper_seats keeper.old }
     ensures flushed { AreFlushed arena.now tables.now keeper.new (λ h. is_told h (entry ∷ [])) }
     ensures others { StayFlushed arena.now keeper.old keeper.new }
+    ensures spared { AreSpared arena.now tables.now keeper.old keeper.new (λ h. is_told h (entry ∷ [])) }
 {
     if let Entry::Made { class } | Entry::Disposed { class, .. } = entry {
         flush_class(keeper, arena, class, true, true);
@@ -54,6 +56,7 @@ fn flush_once(
     ensures flushed { AreFlushed arena.now tables.now keeper.new (λ h. is_told h (entry ∷ [])) }
     ensures recent { (c : ClassRef) → HasPlace recent.new c → IsFlushedBelow arena.now tables.now keeper.new c }
     ensures others { StayFlushed arena.now keeper.old keeper.new }
+    ensures spared { AreSpared arena.now tables.now keeper.old keeper.new (λ h. is_told h (entry ∷ [])) }
 {
     if !recent.had(&entry) {
         flush_entry(keeper, arena, tables, entry);
@@ -71,6 +74,7 @@ fn flush_both(keeper: &mut Keeper, arena: &Arena, tables: &Tables, first: Entry,
     ensures history { keeper_history keeper.new ≡ keeper_history keeper.old }
     ensures seats { keeper_seats keeper.new ≡ keeper_seats keeper.old }
     ensures flushed { AreFlushed arena.now tables.now keeper.new (λ h. is_told h (first ∷ second ∷ [])) }
+    ensures spared { AreSpared arena.now tables.now keeper.old keeper.new (λ h. is_told h (first ∷ second ∷ [])) }
 {
     flush_entry(keeper, arena, tables, first);
     if let (Some(one), Some(other)) = (first.place(), second.place()) {
@@ -92,6 +96,7 @@ fn flush_each(keeper: &mut Keeper, arena: &Arena, tables: &Tables, entries: &[En
     ensures history { keeper_history keeper.new ≡ keeper_history keeper.old }
     ensures seats { keeper_seats keeper.new ≡ keeper_seats keeper.old }
     ensures flushed { AreFlushed arena.now tables.now keeper.new (λ h. is_told h entries.now) }
+    ensures spared { AreSpared arena.now tables.now keeper.old keeper.new (λ h. is_told h entries.now) }
 {
     let mut recent = Recent::none();
     for entry in entries {
@@ -112,6 +117,7 @@ fn flush_written(keeper: &mut Keeper, arena: &Arena, tables: &Tables, entries: &
     ensures history { keeper_history keeper.new ≡ keeper_history keeper.old }
     ensures seats { keeper_seats keeper.new ≡ keeper_seats keeper.old }
     ensures flushed { AreFlushed arena.now tables.now keeper.new (λ h. is_told h entries.now) }
+    ensures spared { AreSpared arena.now tables.now keeper.old keeper.new (λ h. is_told h entries.now) }
 {
     if entries.len() == 1 {
         flush_entry(keeper, arena, tables, entries[0]);
@@ -178,6 +184,8 @@ pub(crate) fn flush_changed<L: ChangeList>(
     ensures seats { keeper_seats keeper.new ≡ keeper_seats keeper.old }
     ensures flushed { FirstAreFlushed classes arena.now tables.now keeper.new
         (λ h. is_flushed tables.now.counts (L.changes changes.now) h entries.now) }
+    ensures spared { flushes_all tables.now.counts (L.changes changes.now) ≡ false
+        → AreSpared arena.now tables.now keeper.old keeper.new (λ h. is_told h entries.now) }
 {
     if flushes_all(tables, changes) {
         flush_all(keeper, arena, classes);

@@ -1,6 +1,6 @@
 //! The runtime behind a lock.
 
-ghost use Rattle.std.specs.Prelude.{◌≡◌, ◌≢◌, ◌<◌, ◌≤◌, ◌*◌, length, replicate, slice_set, take, not, is_some, true, [], ◌∷◌, IfOk, IfErr, IfSome, IsErrOf, IsNone, OnErr, OnOk, None};
+ghost use Rattle.std.specs.Prelude.{◌≡◌, ◌≢◌, ◌<◌, ◌≤◌, ◌*◌, length, replicate, slice_set, take, not, is_some, true, false, [], ◌∷◌, IfOk, IfErr, IfSome, IsErrOf, IsNone, OnErr, OnOk, None};
 ghost use Rattle.msg_names.specs.Number.{selector_number, imp_number};
 ghost use Rattle.msg_tables.specs.Origin.{last_imp};
 ghost use Rattle.msg_tables.specs.History.{BeginsWith, empty, holder, log, superclass};
@@ -18,6 +18,8 @@ ghost use Rattle.msg_reader.specs.Notes.{AreNotesOf, IsNoted, StayStamped};
 ghost use Rattle.msg_runtime.specs.Calls.{AllAreOut, CachesAnswer, CountsRefusalUnless, HasKeeper, HasRoomForRows, HoldsRoomFor, KeepsAtLeastRoom, KeepsCaches, KeepsRoom, LacksRoomFor, LendsTurnIf, MarksAllReached, RestsAs, WantsRoom, WantsRoomIf};
 ghost use Rattle.msg_runtime.specs.Changed.{IsAccepted, IsMadeAt, IsRefusedAt, IsUnmade};
 ghost use Rattle.msg_runtime.specs.Parts.{IsKeeperOf, IsNew, keeper_history};
+ghost use Rattle.msg_runtime.specs.Reach.{flushes_all};
+ghost use Rattle.msg_runtime.specs.Spared.{ChillsAffected, SparesOthers};
 ghost use Rattle.msg_runtime.specs.declared.runtime.TheConstants.{OPENING_ENTRIES};
 
 use crate::caching::cache_found;
@@ -280,6 +282,9 @@ impl Runtime {
         ensures ok { IfOk result (IsMadeAt self.old.keeper.history change.now self.new.keeper.history) }
         ensures back { OnOk result (TellsWayBack (change.now ∷ []) self.old.keeper.history self.new.written.entries) }
         ensures held { OnOk result (HoldsRoomFor self.old self.new (change.now ∷ [])) }
+        ensures cold { OnOk result (ChillsAffected (change.now ∷ []) self.old self.new) }
+        ensures spared { OnOk result (flushes_all self.old.keeper.history.origin.counts (change.now ∷ []) ≡ false
+            → SparesOthers (change.now ∷ []) self.old self.new) }
         ensures room { KeepsAtLeastRoom self.old self.new }
         ensures wanting { IsErrOf result ChangeFault.Memory → LacksRoomFor self.old (change.now ∷ []) }
         ensures no_row { IsErrOf result ChangeFault.Memory
@@ -326,6 +331,9 @@ impl Runtime {
         ensures back { OnOk result
             (TellsWayBack (L.changes changes.now) self.old.keeper.history self.new.written.entries) }
         ensures held { OnOk result (HoldsRoomFor self.old self.new (L.changes changes.now)) }
+        ensures cold { OnOk result (ChillsAffected (L.changes changes.now) self.old self.new) }
+        ensures spared { OnOk result (flushes_all self.old.keeper.history.origin.counts (L.changes changes.now) ≡ false
+            → SparesOthers (L.changes changes.now) self.old self.new) }
         ensures room { KeepsAtLeastRoom self.old self.new }
         ensures rows { HasRoomForRows self.old }
         ensures wanting { IfErr result (WantsRoom self.old (L.changes changes.now)) }
@@ -366,6 +374,9 @@ impl Runtime {
             (TellsWayBack (L.changes changes.now) self.old.keeper.history self.new.written.entries) }
         ensures fits { OnOk result (length self.new.written.entries ≤ most) }
         ensures held { OnOk result (HoldsRoomFor self.old self.new (L.changes changes.now)) }
+        ensures cold { OnOk result (ChillsAffected (L.changes changes.now) self.old self.new) }
+        ensures spared { OnOk result (flushes_all self.old.keeper.history.origin.counts (L.changes changes.now) ≡ false
+            → SparesOthers (L.changes changes.now) self.old self.new) }
         ensures room { KeepsAtLeastRoom self.old self.new }
         ensures rows { HasRoomForRows self.old }
         ensures wanting { IfErr result (WantsRoomIf self.old (L.changes changes.now)) }

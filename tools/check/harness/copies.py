@@ -89,7 +89,7 @@ def steps(text):
 def notes(seat):
     """The functions of seat.h that load notes, by a key."""
     end = seat.index("#endif\n", seat.index("shim_note(Class"))
-    text = seat[seat.index("static inline uint64_t shim_said_at("):end]
+    text = seat[seat.index("static inline uint64_t shim_said_in("):end]
     key = "    uint64_t key = __atomic_load_n(&class_->key, __ATOMIC_ACQUIRE) + sel->name.key;\n"
     for old, new in ((key, ""), (" __attribute__((unused)) =", " ="),
                      ("Class class_, SEL sel", "uint64_t key"), ("class_, sel", "key")):

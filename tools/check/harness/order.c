@@ -138,12 +138,15 @@ static uint32_t index_of(uint32_t number, bool meta, uint32_t sel)
     __CPROVER_assert(is_one, "the parts of the key");
     return number - 1;
 }
-/* A change reaches the one class, or both. */
+/* A change reaches the one class, or both: each is closed by a step of its own. */
 static bool reaches_both;
-static void close_stamps(void)
+static void close_first(void)
 {
     reaches_both = any_bool();
     words[1 + A] = CLOSED;
+}
+static void close_second(void)
+{
     if (reaches_both) words[1 + B] = CLOSED;
 }
 static void make_change(void)
@@ -353,7 +356,10 @@ static void other(bool all)
         holder = 0; state = 0;
     }
     if (state == 0 && holder == 0 && rounds < ROUNDS && !all && any_bool()) {
-        holder = 2; close_stamps(); state = 1;
+        holder = 2; close_first(); state = 4;
+    }
+    if (state == 4 && (all || !reaches_both || any_bool())) {
+        close_second(); state = 1;
     }
     if (state == 1 && (all || any_bool())) {
         make_change(); finished = made; state = 2;
@@ -562,11 +568,16 @@ static void shim_sends(void)
     SAY("send of key", key, 0);
     bool says = shim_note(KEY(key), &imp);
     SAY("a note says it, imp", says, imp);
+    uint64_t second = says ? 0 : shim_said_second(KEY(key));
+    /* find_from of trusted/objc/sending.c */
+    if (!says && second < MSG_SAID_LONG) says = true, imp = (uint32_t)second;
     if (says) is_right(key, least, before, imp);
-    /* find_by_key of trusted/objc/sending.c: where the lock isn't to be had it asks the rows, which
-     * aren't in this model */
+    /* find_by_key there: where the lock isn't to be had it asks the rows, which aren't in this
+     * model */
     else {
-        uint32_t fault = msg_process_find_slowly(KEY(key), MSG_WAITS_A_WHILE, &imp);
+        bool unnoted = second > MSG_SAID_NONE;
+        uint32_t fault = unnoted ? msg_process_find_unnoted(KEY(key), MSG_WAITS_A_WHILE, &imp)
+                                 : msg_process_find_slowly(KEY(key), MSG_WAITS_A_WHILE, &imp);
         if (!fault) is_right(key, least, before, imp);
         else __CPROVER_assert(fault == MSG_LOCK_HELD, "it answers");
     }
@@ -577,7 +588,8 @@ static void changes(void)
 {
     msg_runtime *r;
     if (msg_process_lock(&r)) return;
-    STEP(); close_stamps();
+    STEP(); close_first();
+    STEP(); close_second();
     STEP(); make_change(); finished = made;
     msg_process_cache(KEY(A));
     STEP();

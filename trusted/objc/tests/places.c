@@ -4,6 +4,7 @@
  * numbers, behind the begin of memory. The last have longer numbers than a seal has room for. */
 #include "modules.h"
 #include "msg_process.h"
+#include <pthread.h>
 
 enum { PLACES = 8192, OF_A_PLACE = 3, FEW = 100, NAMES = 2 * PLACES + FEW, OF_CLASSES = 15 };
 enum { NUMBERS = 4096, MADE = 38, CLASSES = 2 * NUMBERS + MADE, BEGIN = 1 << 24 };
@@ -76,6 +77,27 @@ static void look_in_turns(void)
         }
 }
 
+static void *replace(void *message)
+{
+    const struct message *it = message;
+    class_replaceMethod(it->class_, sels[it->name], (IMP)(BEGIN + it->number), "@16@0:8");
+    return NULL;
+}
+
+/* What another thread replaced is found anew, also if the second note has the old one. */
+static void replace_in_turns(void)
+{
+    struct message two[] = {{&root, 0, 0}, {&root, PLACES, PLACES}};
+    for (int turn = 0; turn < 4; turn++) {
+        pthread_t thread;
+        for (int k = 0; k < 4; k++) look(&two[k % 2]);
+        two[turn % 2].number++;
+        pthread_create(&thread, NULL, replace, &two[turn % 2]);
+        pthread_join(thread, NULL);
+        for (int k = 0; k < 4; k++) look(&two[k % 2]);
+    }
+}
+
 static long asked;
 static id refuse(id self, SEL sel, ...) { (void)self; (void)sel; asked++; return NULL; }
 static IMP forward(id to, SEL sel) { (void)to; (void)sel; return one; }
@@ -110,6 +132,7 @@ int main(void)
     for (int i = 0; i < CLASSES; i++) make(i);
     for (int turn = 0; turn < 3; turn++) look_in_turns();
     resolve_later();
+    replace_in_turns();
     printf("wrong %ld\n", wrong);
     return 0;
 }

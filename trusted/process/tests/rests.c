@@ -221,17 +221,32 @@ static void at_an_end(int rounds)
     if (rounds <= ROUNDS) MUST(is_held_by(changes, 0));
 }
 
-/* In a child, since nobody is told of old code after it. */
-static void at_the_last_end(void)
+static bool returns_0_in_a_child(void (*call)(void))
 {
     int status = 1;
     pid_t child = fork();
     if (!child) {
-        at_an_end(ROUNDS + 1);
+        call();
         _exit(wrong != 0);
     }
-    MUST(waitpid(child, &status, 0) == child && !status);
+    return waitpid(child, &status, 0) == child && !status;
 }
+
+/* The thread whose end can't be told isn't in a child. */
+static void is_told(void)
+{
+    uint64_t seen, holder;
+    MUST(!msg_process_seen_by_all(&seen, &holder));
+}
+
+/* In a child, since nobody is told of old code after it. */
+static void at_an_end_too_many(void)
+{
+    at_an_end(ROUNDS + 1);
+    MUST(returns_0_in_a_child(is_told));
+}
+
+static void at_the_last_end(void) { MUST(returns_0_in_a_child(at_an_end_too_many)); }
 
 /* ---- all at once ---- */
 

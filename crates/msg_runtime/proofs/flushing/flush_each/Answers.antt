@@ -9,6 +9,9 @@ use Rattle.msg_tables.specs.History.{History}
 use Rattle.msg_tables.specs.Preorder.{is_in}
 use Rattle.msg_cache.specs.Ours.{IsCold}
 use Rattle.msg_tables.proofs.PreorderLemmas.{first-in, later-in}
+use Rattle.msg_cache.specs.Views.{layout}
+use Rattle.msg_runtime.specs.Parts.{keeper_view}
+use Rattle.msg_runtime.proofs.SparedLemmas.{spared-on, spared-same}
 use Rattle.msg_runtime.proofs.flushing.flush_each.Goals as goal
 
 both : (a b : Bool) → (a && b) ≡ true → (a ≡ true) × (b ≡ true)
@@ -21,6 +24,11 @@ of-both true true e f = refl
 of-both true false e f = cc
 of-both false b e f = cc
 
+not-here : (kind here there : Bool) → (kind && there) ≡ false → (here ≡ true → there ≡ true) → (kind && here) ≡ false
+not-here true true there e f = sym (f refl) ∙ e
+not-here true false there e f = refl
+not-here false here there e f = refl
+
 pub loop-class-init : goal.loop-class-init
 loop-class-init c =
     let same = c.into_iter-class-iterator.ensures.into_iter_gives ∙ c.classes-class-items.ensures in
@@ -31,6 +39,7 @@ loop-class-init c =
       left = λ k e. ap (is_in k) (sym same) ∙ e;
       flushed = λ d e. inl (ap (λ ks. cond d.meta c.args.below.meta c.args.below.own && is_in d.class ks) same ∙ e);
       others = λ d e. e;
+      spared = λ d e. spared-same (layout c.args.arena.now) (keeper_view c.args.keeper.now) d;
     }
 
 pub flush_class-requires-clause-class : goal.flush_class-requires-clause-class
@@ -47,10 +56,21 @@ loop-class-preserved c = record {
   left = λ k e. c.loop-class.invariant.left k (ap (is_in k) c.in-Some.ensures.steps ∙ later-in k c.in-Some.class c.next.new.self e);
   flushed = λ d e. at d (c.loop-class.invariant.flushed d e);
   others = λ d e. c.flush_class.ensures.others d (c.loop-class.invariant.others d e);
+  spared = λ d e. spared-on (layout c.args.arena.now) (keeper_view c.args.keeper.now) (keeper_view c.loop-class.keeper) (keeper_view c.flush_class.new.keeper) d
+      (c.loop-class.invariant.spared d e) (c.flush_class.ensures.spared d (apart d e));
 }
   where
     kind : ClassRef → Bool
     kind d = cond d.meta c.args.below.meta c.args.below.own
+
+    inside : is_in c.in-Some.class c.args.below.classes ≡ true
+    inside = c.loop-class.invariant.left c.in-Some.class (ap (is_in c.in-Some.class) c.in-Some.ensures.steps ∙ first-in c.in-Some.class c.next.new.self)
+
+    apart : (d : ClassRef) → covers c.args.below d ≡ false → (cond d.meta c.has_metaclasses-meta.result c.has_classes-own.result && (c.in-Some.class == d.class)) ≡ false
+    apart d e =
+        ap₂ (λ m o. cond d.meta m o && (c.in-Some.class == d.class)) c.has_metaclasses-meta.ensures c.has_classes-own.ensures
+        ∙ not-here (kind d) (c.in-Some.class == d.class) (is_in d.class c.args.below.classes) e
+        (λ same. subst (λ k. is_in k c.args.below.classes ≡ true) (same_number c.in-Some.class d.class same) inside)
 
     here : (d : ClassRef) → kind d ≡ true → ((c.in-Some.class == d.class) ≡ true) ⊎ (is_in d.class c.next.new.self ≡ true)
         → (covers (record c.args.below { classes = c.next.new.self }) d ≡ true) ⊎ IsCold c.args.arena.now c.flush_class.new.keeper d

@@ -1,7 +1,10 @@
-use Rattle.std.proofs.Common.{◌≡◌, [], ◌∷◌, length, take, true, sym, ap, subst, ◌∙◌, ⊎_elim, arith}
+use Rattle.std.proofs.Common.{◌≡◌, [], ◌∷◌, length, take, true, false, sym, ap, subst, ◌∙◌, ⊎_elim, arith}
 use Rattle.std.proofs.Math.Seq.{take-length}
 use Rattle.msg_tables.specs.Making.{is_told}
 use Rattle.msg_tables.proofs.AffectedAllLemmas.{told-next}
+use Rattle.msg_cache.specs.Views.{layout}
+use Rattle.msg_runtime.specs.Parts.{keeper_view}
+use Rattle.msg_runtime.proofs.SparedLemmas.{spared-on, untold-next}
 use Rattle.msg_runtime.proofs.flushing_all.flush_each.Goals as goal
 
 pub loop-entry-preserved : goal.loop-entry-preserved
@@ -17,6 +20,10 @@ loop-entry-preserved c = record {
       ⊎_elim (λ (before : is_told h (take i items) d ≡ true). c.flush_once.ensures.others d (c.loop-entry.invariant.flushed h stands d before))
       (λ (now : is_told h (entry ∷ []) d ≡ true). c.flush_once.ensures.flushed h stands d now)
       (told-next h items i entry d c.loop-entry-test.true c.entry-item.is told);
+  spared = λ h stands d untold.
+      let (before, now) = untold-next h c.args.entries.now c.loop-entry.entry-index c.entry-item.result d c.loop-entry-test.true c.entry-item.is untold in
+      spared-on (layout c.args.arena.now) (keeper_view c.args.keeper.now) (keeper_view c.loop-entry.keeper) (keeper_view c.flush_once.new.keeper) d
+      (c.loop-entry.invariant.spared h stands d before) (c.flush_once.ensures.spared h stands d now);
 }
 
 pub returns-clause-flushed : goal.returns-clause-flushed
@@ -25,3 +32,10 @@ returns-clause-flushed c = λ h stands d told.
     let end : c.loop-entry.entry-index ≡ length items = omega (arith, c.loop-entry-test.false, c.loop-entry.auto.entry-index-end) in
     let whole : take c.loop-entry.entry-index items ≡ c.args.entries.now = ap (λ n. take n items) end ∙ take-length items in
     c.loop-entry.invariant.flushed h stands d (subst (λ es. is_told h es d ≡ true) (sym whole) told)
+
+pub returns-clause-spared : goal.returns-clause-spared
+returns-clause-spared c = λ h stands d untold.
+    let items = c.args.entries.now in
+    let end : c.loop-entry.entry-index ≡ length items = omega (arith, c.loop-entry-test.false, c.loop-entry.auto.entry-index-end) in
+    let whole : take c.loop-entry.entry-index items ≡ c.args.entries.now = ap (λ n. take n items) end ∙ take-length items in
+    c.loop-entry.invariant.spared h stands d (subst (λ es. is_told h es d ≡ false) (sym whole) untold)

@@ -1,6 +1,5 @@
-use Rattle.std.proofs.Common.{◌≡◌, ◌∙◌, List, ap, refl, subst, sym}
+use Rattle.std.proofs.Common.{◌≡◌, ◌∙◌, ap, refl, subst, sym}
 use Rattle.msg_tables.specs.Noted.{WrittenView}
-use Rattle.msg_tables.specs.declared.entry.Entry.{Entry}
 use Rattle.msg_host.specs.Listing.{TellsRowsBack}
 use Rattle.msg_host.proofs.ListingLemmas.{rows_undone}
 use Rattle.msg_host.proofs.WayBackLemmas.{taken_back}

@@ -2,14 +2,22 @@
 use Rattle.std.proofs.Common.{rules, ◌≡◌, ◌||◌, [], ◌∷◌, length, length-append, true, false, Bool, ap, sym, subst, refl, ◌∙◌, arith}
 use Rattle.msg_tables.specs.History.{History, and_then, log}
 use Rattle.msg_tables.specs.Origin.{class_total}
-use Rattle.msg_tables.specs.Several.{refusal_of_all}
+use Rattle.msg_tables.specs.Several.{and_all, refusal_of_all}
 use Rattle.msg_tables.specs.Stands.{StandsAt}
+use Rattle.msg_tables.specs.Making.{is_told}
 use Rattle.msg_tables.proofs.HistoryLemmas.{log-all}
-use Rattle.msg_tables.proofs.SeveralLemmas.{none-refused}
+use Rattle.msg_tables.proofs.PresenceLemmas.{ordered}
+use Rattle.msg_tables.proofs.SeveralLemmas.{none-accepted, none-refused}
+use Rattle.msg_tables.proofs.ToldLemmas.{told-only}
 use Rattle.msg_tables.proofs.WantLemmas.{count-within}
 use Rattle.msg_tables.proofs.WayLemmas.{length-undo}
 use Rattle.msg_cache.specs.declared.view.KeeperView.{KeeperView}
+use Rattle.msg_cache.specs.Views.{layout}
 use Rattle.msg_runtime.specs.Parts.{IsKeeperOf, keeper_history, keeper_view}
+use Rattle.msg_runtime.specs.Reach.{flushes_all}
+use Rattle.msg_runtime.specs.Spared.{IsSpared}
+use Rattle.msg_runtime.specs.View.{RuntimeView}
+use Rattle.msg_runtime.proofs.SparedLemmas.{committed-spares, spared-on}
 use Rattle.msg_runtime.proofs.RestingLemmas.{full_on, rests_on}
 use Rattle.msg_runtime.proofs.runtime.Runtime.change_all_within.Goals as goal
 
@@ -72,3 +80,26 @@ returns-then-len-eq0-clause-rows g c = rw (← c.self.view_is) (λ d. count-with
 
 pub returns-clause-rows : goal.returns-clause-rows
 returns-clause-rows g c = rw (← c.self.view_is) (λ d. count-within c.self.inside.tables (log (keeper_history c.self.inside.keeper)) d c.self.invariant.tables c.start-start.ensures.within)
+
+not-so : (b : Bool) → (b ≡ true → true ≡ false) → b ≡ false
+not-so true so = so refl
+not-so false so = refl
+
+-- what the list doesn't affect, its entries don't tell of
+pub returns-clause-spared : goal.returns-clause-spared
+returns-clause-spared g c = rw (← c.self.view_is) (λ none d other.
+    let xs = g.L.ChangeList.changes c.args.changes.now in
+    let z = layout c.self.inside.arena.value in
+    let was = keeper_view c.self.inside.keeper in
+    let flushed = keeper_view c.flush_changed.new.keeper in
+    let h = log (keeper_history c.self.inside.keeper) in
+    let stands = c.self.invariant.tables in
+    let (accepted, after) = c.in_default.ensures.ok h stands in
+    let made = none-accepted h xs 0 accepted in
+    let entries = c.apply_all.new.written.entries in
+    let same : c.as_slice.result.now ≡ entries = c.as_slice.ensures in
+    let untold : is_told (and_all h xs) entries d ≡ false = not-so (is_told (and_all h xs) entries d) (λ told.
+    sym (told-only h xs entries d (ordered h c.self.invariant.keeper.1.tidy.kept.accepted.origin stands.log) made c.in_default.ensures.made (c.in_default.ensures.places h stands) told) ∙ other) in
+    let arena = c.requires.arena ∙ sym (ap (λ (v : RuntimeView). v.arena) c.self.view_is) in
+    let unaffected = subst (λ a. IsSpared (layout a) was flushed d) arena (c.flush_changed.ensures.spared (ap (λ n. flushes_all n xs) (c.apply_all.ensures.counts ∙ stands.counts) ∙ none) (and_all h xs) after d (subst (λ es. is_told (and_all h xs) es d ≡ false) (sym same) untold)) in
+    subst (λ k. IsSpared z was k d) (sym c.commit_all.ensures.committed) (spared-on z was flushed _ d unaffected (committed-spares z xs flushed d)))
