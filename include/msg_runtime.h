@@ -4,8 +4,8 @@
  * It says of each call what it does, its parameters and its faults, and its
  * cost if that grows with something; docs/PERFORMANCE.md has figures. A group's
  * title says whether its calls want the lock, and may say what all of them
- * cost. What a call returns is proved of the Rattle code in crates/msg_c,
- * clause by clause.
+ * cost. What is proved of a call are the clauses of its contract in
+ * crates/msg_c. What else its comment says is tested.
  *
  * A runtime opens without classes. All numbers are the host's to give:
  *

@@ -1,9 +1,10 @@
 #!/usr/bin/env python3
-"""Checks that a compiled send loads its note in the order of trusted/objc/seat.h, where that is
-assembly: `send.py ROOT FLAGS..` compiles ROOT/trusted/objc/sending.c for x86-64.
+"""Checks that a compiled send loads its notes in the order of trusted/objc/seat.h: `send.py ROOT
+FLAGS..` compiles ROOT/trusted/objc/sending.c for x86-64.
 
 Each inline copy of the assembly has to be just the lines of WAY, one after the other and with no
-label in between. objc_msg_lookup has to have one, and no fourth operand of that form."""
+label in between. objc_msg_lookup has to have one, and no fourth operand of that form. Of the second
+note, which find_from asks, the compiler has to make SECOND."""
 import re
 import subprocess
 import sys
@@ -19,6 +20,12 @@ cmpq \4, COUNT\(\1,\2,4\)
 j[bc] .*
 subq SEAL\(\1,\2,4\), %\w+
 """
+SECOND = r"""movq (\d+)\((%\w+)\), (%\w+)
+movq \([^)]*\3[^)]*\), (%\w+)
+cmpq \4, (\d+)\(\2\)
+j[bc] .*
+movq (\d*)\(\2\), %\w+
+"""
 root, flags = sys.argv[1], sys.argv[2:]
 words = ["cc", "-std=c11", "-O2", "-D_DEFAULT_SOURCE", "-D_GNU_SOURCE", "-w", *flags]
 words += [f"-I{root}/include", f"-I{root}/trusted/objc", "-x", "c", "-S", "-o", "-", "-"]
@@ -30,9 +37,20 @@ code = re.sub(r"(?m)#.*|^\s*\.(?!L).*|\{disp32\}", "", made)
 code = re.sub(r"\s*\n\s*", "\n", re.sub(r"[ \t]+", " ", code))
 way = re.compile(re.sub("STAMP|COUNT|SEAL", lambda it: places[it[0]], WAY))
 copies = len(way.findall(code))
-send = re.search(r"(?s)\nobjc_msg_lookup:\n.*?\n(?=[a-z_]\w*:)", code)[0]
+
+
+def body(name):
+    return re.search(rf"(?s)\n{name}:\n.*?\n(?=[a-z_]\w*:)", code)[0]
+
+
+send = body("objc_msg_lookup")
 loads = re.findall(r"\d*\(%\w+,%\w+,4\)", send)
 if not way.search(send) or len(loads) != 3 or blocks != 3 * copies:
     sys.exit(f"{send}objc_msg_lookup loads of a note: {' '.join(loads)}\n"
              f"blocks of assembly: {blocks}, copies of the way: {copies}")
+second = re.search(SECOND, body("find_from"))
+loads = [int(second[it] or 0) for it in (1, 5, 6)] if second else []
+wanted = [int(places[it]) for it in ("STAMP", "COUNT", "SEAL")]
+if [it - loads[2] for it in loads] != [it - wanted[2] for it in wanted]:
+    sys.exit(f"{body('find_from')}its loads of the second note aren't stamp, count, seal")
 print(f"ALL RIGHT: {copies} copies")
