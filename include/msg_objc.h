@@ -6,7 +6,8 @@
  * message of any thread is answered by another of them as it was. (A thread
  * that sends two messages may have the change come between them.) A handler of
  * a signal that interrupts a send or change of its own thread may see them one
- * by one. */
+ * by one. So may a thread whose send finds no note while the change's thread is
+ * held up: after about a second it waits no longer. */
 #ifndef MSG_OBJC_H
 #define MSG_OBJC_H
 
@@ -41,8 +42,8 @@ struct objc_method_lookup {
  *
  * Faults: nothing has changed, and the place is returned of the first row that
  * can't be: without a class that is registered, a selector or an
- * implementation; without types if nobody has the method; that names what a row
- * before it does. 0 also if there is no memory. */
+ * implementation; without types, or with empty ones, if nobody has the method;
+ * that names what a row before it does. 0 also if there is no memory. */
 size_t objc_replace_methods(struct objc_method_swap *rows, size_t count);
 /* method_exchangeImplementations of each pair, one after another, and all of
  * them at once; so the same call with the pairs in reverse order takes it back.

@@ -226,18 +226,25 @@ void method_exchangeImplementations(Method one, Method other)
     method_setImplementation(other, method_setImplementation(one, shim_imp(other)));
 }
 
-static bool plan_swap(const struct objc_method_swap *rows, size_t at, struct part *part)
+/* Whether the key is in the table, which has more places than keys; it is there then. */
+static bool was_there(uint64_t *keys, size_t places, uint64_t key)
 {
-    const struct objc_method_swap *it = &rows[at];
+    size_t at = shim_mixed_word(key) % places;
+    for (; keys[at]; at = (at + 1) % places)
+        if (keys[at] == key) return true;
+    keys[at] = key;
+    return false;
+}
+
+static bool plan_swap(const struct objc_method_swap *it, struct part *part)
+{
     struct record *record = it->class_ ? it->class_->record : NULL;
     if (!record || !record->number || !it->sel || !it->imp) return false;
-    for (const struct objc_method_swap *before = rows; before < it; before++)
-        if (before->class_ == it->class_ && sel_isEqual(before->sel, it->sel)) return false;
     uint32_t sel = shim_sel(it->sel);
     Method method = method_of(record, sel), known = method;
     if (!known) known = shim_standing(it->class_, sel);
     const char *types = it->types || !known ? it->types : known->types;
-    if (!method && !types) return false;
+    if (!method && (!types || !*types)) return false;
     *part = part_of(record, method, it->sel, it->imp, types);
     part->before = known ? known->imp : NULL;
     return true;
@@ -248,9 +255,14 @@ size_t objc_replace_methods(struct objc_method_swap *rows, size_t count)
     LOCKED;
     struct part *parts = shim_memory(count * sizeof *parts);
     msg_change *all = shim_memory(count * sizeof *all);
-    size_t place = 0;
-    for (; place < count && plan_swap(rows, place, &parts[place]); place++)
-        all[place] = replacing(parts[place].record, parts[place].sel, parts[place].imp);
+    size_t place = 0, places = 2 * count + 1;
+    uint64_t *keys = shim_memory(places * sizeof *keys);
+    for (; place < count && plan_swap(&rows[place], &parts[place]); place++) {
+        const struct part *part = &parts[place];
+        if (was_there(keys, places, shim_key(part->record, part->sel))) break;
+        all[place] = replacing(part->record, part->sel, part->imp);
+    }
+    free(keys);
     bool made = place == count && !msg_change_all(shim_runtime, all, count, &place);
     for (size_t i = 0; made && i < count; i++) settle(&parts[i]);
     for (size_t i = 0; made && i < count; i++) {

@@ -52,7 +52,8 @@ bool shim_has_class_number(void) { return shim_class_count + in_construction < s
 void shim_number_class(Class class_)
 {
     shim_classes[++shim_class_count] = class_;
-    class_->record->number = class_->isa->record->number = shim_class_count;
+    STORE(class_->isa->record->number, shim_class_count);
+    STORE(class_->record->number, shim_class_count); /* other threads may ask (in construction) */
     shim_index(&by_name, shim_mixed(class_->name), shim_class_count);
 }
 

@@ -89,13 +89,20 @@ static bool try_class(void *row)
     return true;
 }
 
+/* A metaclass may have been given others than its class, so it has a list of its own. */
 static void adopt(Class class_, struct protocol_list *list)
 {
     struct protocol_list **end = &list;
     shim_take_protocols(list);
+    for (struct protocol_list *one = list; one; one = one->next) {
+        size_t size = sizeof *one + one->count * sizeof *one->rows;
+        struct protocol_list *copy = memcpy(shim_memory(size), one, size);
+        copy->next = class_->isa->protocols;
+        class_->isa->protocols = copy;
+    }
     while (*end) end = &(*end)->next;
     *end = class_->protocols;
-    class_->protocols = class_->isa->protocols = list;
+    class_->protocols = list;
 }
 
 static bool try_category(void *row)

@@ -150,7 +150,10 @@ bool shim_has_class_number(void);
 void shim_number_class(Class class_);
 /* Those that are numbered are found by their names from now on: the tables have them. */
 void shim_publish(void);
-static inline bool shim_in_construction(Class of) { return of->record && !of->record->number; }
+static inline bool shim_in_construction(Class of)
+{
+    return of->record && !LOAD(of->record->number);
+}
 /* A class's part of its keys, which is 0 of number 0 alone; and a whole key. */
 static inline uint64_t shim_class_key(const struct record *record)
 {

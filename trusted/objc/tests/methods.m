@@ -116,8 +116,9 @@ int main(void)
                method_getImplementation(class_getInstanceMethod(torch, @selector(two))));
     printf("of nothing: %d %d %d\n", class_getInstanceMethod(NULL, @selector(one)) == NULL,
            method_getName(NULL) == NULL, class_addMethod(torch, NULL, (IMP)ten, "i16@0:8"));
-    printf("no types: %d %d\n", method_copyReturnType(NULL) == NULL,
-           method_copyArgumentType(NULL, 0) == NULL);
+    printf("no types: %d %d %d\n", method_copyReturnType(NULL) == NULL,
+           method_copyArgumentType(NULL, 0) == NULL,
+           method_copyArgumentType(class_getInstanceMethod(torch, @selector(one)), -1) == NULL);
     show_cut(NULL, 2);
     object_dispose(object);
     show_both();

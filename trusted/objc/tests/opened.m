@@ -1,6 +1,6 @@
 /* Modules are loaded beside threads that find their classes by name: who finds one can ask it
  * and send to it, and has all that its module brings to other classes, also where it was noted
- * before that there is no such method. */
+ * before that there is no such method. A metaclass keeps the protocol that it was given. */
 #include "roots.h"
 #include <dlfcn.h>
 #include <pthread.h>
@@ -18,6 +18,9 @@ __attribute__((objc_root_class)) @interface Base { Class isa; }
 __attribute__((objc_root_class)) @interface Apart { Class isa; }
 @end
 @implementation Apart
+@end
+@protocol Given
+- (int)given;
 @end
 
 static int wrong, found, waiting[2] = {-1, -1};
@@ -86,6 +89,7 @@ int main(void)
         added[module] = sel_registerName(name);
     }
     [Base value];
+    if (!class_addProtocol(objc_getMetaClass("Apart"), @protocol(Given))) count(&wrong);
     for (int i = 0; i < 2; i++) pthread_create(&threads[i], NULL, find, i ? &wrong : NULL);
     for (int module = 0; module < MODULES_COUNT; module++) {
         for (int i = 0; i < 2; i++)
@@ -93,6 +97,7 @@ int main(void)
         load(module);
     }
     for (int i = 0; i < 2; i++) pthread_join(threads[i], NULL);
+    if (!class_conformsToProtocol(objc_getMetaClass("Apart"), @protocol(Given))) count(&wrong);
     printf("found %d, wrong %d\n", found, wrong);
     return 0;
 }

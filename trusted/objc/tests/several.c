@@ -65,6 +65,7 @@ static void refuse_each(void)
     refuse("no selector", &child, NULL, one, "@16@0:8");
     refuse("no implementation", &child, first, NULL, "@16@0:8");
     refuse("no types", &child, sel_registerName("nobodys"), one, NULL);
+    refuse("empty types", &child, sel_registerName("nobodys"), one, "");
     refuse("named before", &child, second, one, "@16@0:8");
     objc_disposeClassPair(constructed);
 }
