@@ -8,7 +8,7 @@ use Rattle.msg_tables.specs.History.{History}
 use Rattle.msg_cache.specs.Plays.{given_again, taken_in}
 use Rattle.msg_cache.specs.Views.{ArenaView, classes}
 use Rattle.msg_reader.specs.Cost.{ProbesAtMost, ProbesOnceAtMost}
-use Rattle.msg_reader.specs.Kept.{FindsUnprobed, HaveNotedSince, LoadsStamp}
+use Rattle.msg_reader.specs.Kept.{FindsUnprobed, HaveNotedSince, LoadsStamp, MissesUnlessChanged}
 use Rattle.msg_reader.specs.Notes.{HaveNoted, IsRecalledSince}
 use Rattle.msg_host.specs.Asking.{AnswersChange, IsLeft}
 use Rattle.msg_host.specs.Listing.{AreRefusedRows, FlushesRows, LackMemoryIf, MakesRows, ReachesRows, RefusesToReach}
@@ -18,7 +18,7 @@ use Rattle.msg_host.specs.Opening.{OpensAs}
 use Rattle.msg_host.specs.View.{SenderView}
 use Rattle.msg_host.specs.WayBack as way_back
 use Rattle.msg_model.specs.State.{awaits}
-use Rattle.msg_runtime.specs.Calls.{AllAreOut, CachesNumber, RestsAs}
+use Rattle.msg_runtime.specs.Calls.{AllAreOut, CachesNumber, KeepsAtLeastRoom, RestsAs}
 use Rattle.msg_runtime.specs.Resting.{HaveAllSeen, IsLeastOut}
 use Rattle.msg_runtime.specs.Parts.{IsNew}
 use Rattle.msg_runtime.specs.View.{RuntimeView}
@@ -90,8 +90,8 @@ abbrev pub GivesOut : RuntimeHandle → RuntimeHandle → SenderHandle → Type 
 GivesOut was is s = GoesWith was is s (λ v w u. IsNew u.seen v.keeper w.keeper)
 
 -- its number is no longer out
-abbrev pub TakesBack : RuntimeHandle → RuntimeHandle → SenderHandle → Type 0
-TakesBack was is s = GoesWith was is s (λ v w u. w ≡ record v { keeper = taken_in u.seen v.keeper })
+abbrev pub TakesSenderIn : RuntimeHandle → RuntimeHandle → SenderHandle → Type 0
+TakesSenderIn was is s = GoesWith was is s (λ v w u. w ≡ record v { keeper = taken_in u.seen v.keeper })
 
 -- it was shown the whole history
 abbrev pub Meets : RuntimeHandle → RuntimeHandle → SenderHandle → Type 0
@@ -151,8 +151,12 @@ RefusesAttachmentIn was is class methods class_methods n = (v w : RuntimeView) �
 abbrev pub MakesRowsIn : List ChangeRow → RuntimeHandle → RuntimeHandle → Type 0
 MakesRowsIn rows was is = (v w : RuntimeView) → was.held.state ≡ Some v → is.held.state ≡ Some w → MakesRows rows v w
 
--- of the runtime in a handle, the caches that the changes of rows affect are flushed, and the
--- others are left as they were
+-- of the runtime in a handle, there is no less room
+abbrev pub KeepsRoomIn : RuntimeHandle → RuntimeHandle → Type 0
+KeepsRoomIn was is = (v w : RuntimeView) → was.held.state ≡ Some v → is.held.state ≡ Some w → KeepsAtLeastRoom v w
+
+-- of the runtime in a handle, the caches that the changes of rows affect are flushed, the others are
+-- left as they were, and nothing but these flushes is remembered and counted
 abbrev pub FlushesRowsIn : List ChangeRow → RuntimeHandle → RuntimeHandle → Type 0
 FlushesRowsIn rows was is = (v w : RuntimeView) → was.held.state ≡ Some v → is.held.state ≡ Some w → FlushesRows rows v w
 
@@ -205,6 +209,11 @@ HasNotedSince s c sel imp = IfSender s (λ w. HaveNotedSince s.notes c sel w.see
 -- a stamp was loaded, and what its notes had since then was found, without a probe
 abbrev pub FindsNotedIn : SenderHandle → SenderHandle → ClassRef → ℕ → Option ℕ → Type 0
 FindsNotedIn was is c sel found = IfSenders was is (λ u w. FindsUnprobed was.notes c sel u.seen w.seen found)
+
+-- the lookup was missed by a probe, or the stamp of its class reference that was loaded last says
+-- more changes than the sender had seen
+abbrev pub MissesIn : SenderHandle → SenderHandle → ClassRef → ℕ → Type 0
+MissesIn was is c sel = IfSenders was is (λ u w. MissesUnlessChanged u.arena c sel u.seen w.seen)
 
 -- one cache at most was probed, for a lookup, and no more words of it were read than one array has
 abbrev pub ProbesOnceIn : SenderHandle → SenderHandle → ClassRef → ℕ → Type 0

@@ -5,7 +5,7 @@ ghost use Rattle.msg_cache.specs.Views.{classes};
 ghost use Rattle.msg_host.specs.Asking.{IsRefusal, want_of_memory, want_of_room};
 ghost use Rattle.msg_host.specs.Listing.{UndoesRows, WeighRows};
 ghost use Rattle.msg_c.specs.Answers.{runtime_arena};
-ghost use Rattle.msg_c.specs.Handles.{FlushesRowsIn, IfOpen, LacksMemoryIn, Leaves, LeavesNumbers, LeavesRests, MakesRowsIn};
+ghost use Rattle.msg_c.specs.Handles.{FlushesRowsIn, IfOpen, KeepsRoomIn, LacksMemoryIn, Leaves, LeavesNumbers, LeavesRests, MakesRowsIn};
 ghost use Rattle.msg_c.specs.Handles.{ReachesRowsIn, RefusesReachIn, RefusesRowsIn, TakesBackIn};
 
 use crate::answer::CLOSED;
@@ -32,6 +32,7 @@ pub extern "C" fn msg_change_all(
     ensures closed { runtime.old.held.state ≡ None → (result ≡ CLOSED) × (place.new ≡ place.old) }
     ensures left { result ≢ 0 → Leaves runtime.old runtime.new }
     ensures made { result ≡ 0 → MakesRowsIn changes.now runtime.old runtime.new }
+    ensures keeps_room { result ≡ 0 → KeepsRoomIn runtime.old runtime.new }
     ensures flushed { result ≡ 0 → FlushesRowsIn changes.now runtime.old runtime.new }
     ensures kept { result ≡ 0 → place.new ≡ place.old }
     ensures place { result ≢ 0 → IfOpen runtime.old (λ v. place.new < length changes.now) }
@@ -65,6 +66,7 @@ pub extern "C" fn msg_change_all_with_undo(
     ensures closed { runtime.old.held.state ≡ None → (result ≡ CLOSED) × (place.new ≡ place.old) }
     ensures left { result ≢ 0 → Leaves runtime.old runtime.new }
     ensures made { result ≡ 0 → MakesRowsIn changes.now runtime.old runtime.new }
+    ensures keeps_room { result ≡ 0 → KeepsRoomIn runtime.old runtime.new }
     ensures flushed { result ≡ 0 → FlushesRowsIn changes.now runtime.old runtime.new }
     ensures undo { result ≡ 0 → IfOpen runtime.old (λ v. UndoesRows changes.now v.keeper.history undo.new undone.new) }
     ensures back { result ≡ 0 → TakesBackIn (take undone.new undo.new) runtime.old runtime.new }

@@ -12,8 +12,8 @@ ghost use Rattle.msg_host.specs.Named.{ref_of};
 ghost use Rattle.msg_c.specs.Handles.{AnswersAsked, CachesIn, FindsNotedIn, GivesOut, HasAllOut, HasNotedAt, HasNotedSince};
 ghost use Rattle.msg_c.specs.Handles.{HasRuntime, HasSeenAll, HasSender, IfAt, IfOfArena, IfSeen};
 ghost use Rattle.msg_c.specs.Handles.{IsListedIn, IsOfRuntime, LeavesNumbers, LeavesRests, LeavesRestsOut};
-ghost use Rattle.msg_c.specs.Handles.{LoadsStampIn, LooksOnceMore, Meets, ProbesOnceIn, Recalls, RestsAtOpening, SeesMore};
-ghost use Rattle.msg_c.specs.Handles.{StaysAt, TakesBack, TellsFaultIn};
+ghost use Rattle.msg_c.specs.Handles.{LoadsStampIn, LooksOnceMore, Meets, MissesIn, ProbesOnceIn, Recalls, RestsAtOpening, SeesMore};
+ghost use Rattle.msg_c.specs.Handles.{StaysAt, TakesSenderIn, TellsFaultIn};
 
 use crate::answer::{
     ALREADY_OPEN, CLOSED, DONE, MISSED, NO_MEMORY, NO_SENDER, NOT_NOTED, NOTED_NONE,
@@ -96,7 +96,7 @@ pub extern "C" fn msg_sender_close(
 ) -> u32
     requires together { AreOfOneArena runtime.old.held.state sender.old.held.state }
     ensures kept { StaysAt runtime.old runtime.new }
-    ensures back { TakesBack runtime.old runtime.new sender.old }
+    ensures back { TakesSenderIn runtime.old runtime.new sender.old }
     ensures closed { sender.new.held.state ≡ None }
     ensures blank { AreBlank sender.new.notes }
     ensures was_closed { sender.old.held.state ≡ None → result ≡ CLOSED }
@@ -142,6 +142,7 @@ pub extern "C" fn msg_probe(
     ensures unprobed { result ≡ 0 → FindsNotedIn sender.old sender.new (ref_of class meta) sel (Some imp.new) }
     ensures miss { IfOfArena sender.old (λ a. result ≡ MISSED → IsAsked a class sel) }
     ensures recalled { result ≡ MISSED → FindsNotedIn sender.old sender.new (ref_of class meta) sel None }
+    ensures missed { result ≡ MISSED → MissesIn sender.old sender.new (ref_of class meta) sel }
     ensures probed { ProbesOnceIn sender.old sender.new (ref_of class meta) sel }
 {
     if !sender.is_open() {

@@ -8,6 +8,7 @@ pub mod CrossingLemmas
 pub mod CursorLemmas
 pub mod EveryCursor
 pub mod FillLemmas
+pub mod FlushesLemmas
 pub mod GroupLemmas
 pub mod KeeperLemmas
 pub mod LawLemmas

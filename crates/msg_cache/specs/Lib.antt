@@ -2,6 +2,7 @@ pub mod BitSet
 pub mod Config
 pub mod Counts
 pub mod Cursors
+pub mod Flushes
 pub mod Inside
 pub mod Keeping
 pub mod LayeredSet

@@ -20,6 +20,7 @@ use Rattle.msg_cache.specs.declared.keeper.TheConstants.{CLOSED}
 use Rattle.msg_cache.specs.declared.view.KeeperView.{KeeperView}
 use Rattle.msg_cache.specs.Config.{refusal_of, setting_of}
 use Rattle.msg_cache.specs.Counts.{CountsFill}
+use Rattle.msg_cache.specs.Flushes.{OnlyFlushes}
 use Rattle.msg_cache.specs.Keeping.{CanUse, Fills, InOrder, filled, grown, header, remember, placement_of}
 use Rattle.msg_cache.specs.Layout.{stamp_at}
 use Rattle.msg_cache.specs.Plays.{committed, flushed, keeper_of, lent, stored}
@@ -129,6 +130,10 @@ CommitsClosed a xs k k' = (cs : List ClassRef) × (view k' ≡ lent (committed x
 -- the class reference was closed, and flushed if it had a live array
 abbrev pub Chills : ArenaView → ClassRef → Keeper → Keeper → Type 0
 Chills a c k k' = (had_array : Bool) × (view k' ≡ cond had_array (flushed c (closed (layout a) c (view k))) (closed (layout a) c (view k)))
+
+-- from the one to the other there were only flushes
+abbrev pub OnlyFlushesIn : ArenaView → Keeper → Keeper → Type 0
+OnlyFlushesIn a k k' = OnlyFlushes (layout a) (view k) (view k') k.remembered.items k'.remembered.items k.report k'.report
 
 -- the class reference has no live array, and is closed
 abbrev pub IsCold : ArenaView → Keeper → ClassRef → Type 0

@@ -152,7 +152,7 @@ impl Model for Turn {
 }
 
 impl Keeper {
-    ghost use Rattle.msg_cache.specs.Ours.{AffectedAreClosed, AffectedAreFlushed, AllAffectedAreClosed, AllAffectedAreFlushed, CanUseFor, CannotBeGiven, ChangesIf, Chills, ClosesSome, CommitsClosed, CountsFillWith, CountsIf, FillsPlace, FillsWith, GrowsInto, IsClosed, IsCold, IsOf, RemembersCapacity, StayCold, closed, is_closed, opened, view, placement_for};
+    ghost use Rattle.msg_cache.specs.Ours.{AffectedAreClosed, AffectedAreFlushed, AllAffectedAreClosed, AllAffectedAreFlushed, CanUseFor, CannotBeGiven, ChangesIf, Chills, ClosesSome, CommitsClosed, CountsFillWith, CountsIf, FillsPlace, FillsWith, GrowsInto, IsClosed, IsCold, IsOf, OnlyFlushesIn, RemembersCapacity, StayCold, closed, is_closed, opened, view, placement_for};
 
     // Makes the keeper of a new arena. The words are a copy of the arena's.
     pub(crate) fn first(
@@ -473,6 +473,7 @@ impl Keeper {
         requires class { class.class < classes arena.now }
         ensures arena { IsOf arena.now self.new }
         ensures view { Chills arena.now class self.old self.new }
+        ensures flushes { OnlyFlushesIn arena.now self.old self.new }
         ensures history { (view self.new).history ≡ (view self.old).history }
         ensures given { (view self.new).given ≡ (view self.old).given }
         ensures since { (view self.new).since ≡ (view self.old).since }

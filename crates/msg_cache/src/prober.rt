@@ -226,8 +226,8 @@ impl Prober {
         count
     }
 
-    /// The stamp of a class reference: no change after that many has affected it. The sender has
-    /// then seen all changes.
+    /// Loads the stamp of a class reference. Of the changes that the sender has then seen, none
+    /// after that many has affected the class reference.
     #[inline]
     pub fn stamp(&mut self, arena: &Arena, class: ClassRef) -> u64
         requires arena { IsSenderOf arena.now self.old }

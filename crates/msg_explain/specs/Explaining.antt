@@ -24,7 +24,7 @@ TellsAsked [] contents old new bytes = TellsReasons contents old new bytes
 TellsAsked (word ∷ []) contents old new bytes = (word ≡ codes "beside") × TellsReasonsBeside contents old new bytes
 TellsAsked (word ∷ more ∷ rest) contents old new bytes = ⊥
 
--- the line of a fault was written to a sink, or the start of it where a write failed
+-- the line of a fault was written to a sink, or the start of it
 abbrev pub SaysFault : {S : Type 0} → Program → (S → Option (List ℕ)) → S → S → DocumentFault → Type 0
 SaysFault p contents old new f =
     Writes contents old new (complaint_line p (Some (Document f))) ⊎ Starts contents old new (complaint_line p (Some (Document f)))

@@ -104,7 +104,7 @@ length-all h (x ∷ xs) =
 pub taken_back : (v w : RuntimeView) (rows undo : List ChangeRow) (n : ℕ) → EveryListHasWayBack → IsHostOrigin v.keeper.history.origin → IsLog (log v.keeper.history)
     → MakesRows rows v w → UndoesRows rows v.keeper.history undo n → TakesBack (take n undo) v w
 taken_back v w rows undo n law hosts accepted made undoes =
-    law hosts.config v w rows undo n (record { within = hosts.within; origin = hosts.origin; log = accepted }) made undoes
+    law v w rows undo n (record { origin = hosts; log = accepted }) made undoes
 
 -- ---- two lists as one
 

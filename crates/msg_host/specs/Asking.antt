@@ -6,7 +6,7 @@ use Rattle.msg_tables.specs.History.{and_then, log}
 use Rattle.msg_tables.specs.Refusal.{refusal}
 use Rattle.msg_tables.specs.RoomLaws.{adds_no_row}
 use Rattle.msg_runtime.specs.Calls.{HoldsRoomFor, KeepsAtLeastRoom, LacksRoomFor, beside_room}
-use Rattle.msg_runtime.specs.Spared.{ChillsAffected, SparesOthers}
+use Rattle.msg_runtime.specs.Spared.{ChillsAffected, OnlyFlushesOf, SparesOthers}
 use Rattle.msg_runtime.specs.View.{RuntimeView}
 use Rattle.msg_runtime.specs.declared.runtime.TheConstants.{OPENING_ENTRIES}
 use Rattle.msg_host.specs.declared.changing.MethodRow.{MethodRow}
@@ -58,9 +58,12 @@ pub record AnswersChange (v w : RuntimeView) (x : Change) (n : ℕ) : Type 0 whe
   pub rested : w.rested ≡ v.rested
   pub made : n ≡ 0 → (refusal (log v.keeper.history) x ≡ None) × (w.keeper.history ≡ and_then v.keeper.history (x ∷ []))
   pub held : n ≡ 0 → HoldsRoomFor v w (x ∷ [])
-  -- the caches that the change affects are flushed, and the others are left as they were
+  pub room : n ≡ 0 → KeepsAtLeastRoom v w
+  -- the caches that the change affects are flushed, the others are left as they were, and nothing
+  -- but these flushes is remembered and counted
   pub cold : n ≡ 0 → ChillsAffected (x ∷ []) v w
   pub spared : n ≡ 0 → SparesOthers (x ∷ []) v w
+  pub flushes : n ≡ 0 → OnlyFlushesOf v w
   pub left : n ≢ 0 → IsLeft v w
   pub fault : n ≢ 0 → n ≢ want_of_memory → option_map change_fault_number (refusal (log v.keeper.history) x) ≡ Some n
   -- a lack of memory is returned only if nothing else forbids the change, and there is too little

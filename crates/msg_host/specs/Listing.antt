@@ -21,7 +21,7 @@ use Rattle.msg_tables.specs.Several.{refused_from}
 use Rattle.msg_tables.specs.Undo.{covering, undo_all}
 use Rattle.msg_cache.specs.Views.{classes}
 use Rattle.msg_runtime.specs.Calls.{HoldsRoomFor, LacksRoomFor}
-use Rattle.msg_runtime.specs.Spared.{ChillsAffected, SparesOthers}
+use Rattle.msg_runtime.specs.Spared.{ChillsAffected, OnlyFlushesOf, SparesOthers}
 use Rattle.msg_runtime.specs.View.{RuntimeView}
 use Rattle.msg_host.specs.Asking.{ask_fault_number, want_of_memory, want_of_room}
 use Rattle.msg_host.specs.Named.{ref_of}
@@ -131,9 +131,10 @@ AreMeant rows xs = map change_in rows ≡ map (λ x. Ok x) xs
 abbrev pub MakesRows : List ChangeRow → RuntimeView → RuntimeView → Type 0
 MakesRows rows v w = (xs : List Change) × AreMeant rows xs × AreMade xs v.keeper.history w.keeper.history × HoldsRoomFor v w xs
 
--- the caches that the changes of rows affect are flushed, and the others are left as they were
+-- the caches that the changes of rows affect are flushed, the others are left as they were, and
+-- nothing but these flushes is remembered and counted
 abbrev pub FlushesRows : List ChangeRow → RuntimeView → RuntimeView → Type 0
-FlushesRows rows v w = (xs : List Change) × AreMeant rows xs × ChillsAffected xs v w × SparesOthers xs v w
+FlushesRows rows v w = (xs : List Change) × AreMeant rows xs × ChillsAffected xs v w × SparesOthers xs v w × OnlyFlushesOf v w
 
 -- the row of this place means no change, and this is the number of its fault; those before mean
 -- some

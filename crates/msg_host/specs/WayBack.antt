@@ -1,5 +1,5 @@
 -- Each list of rows has a way back.
-use Rattle.std.specs.Prelude.{◌≡◌, ◌≤◌, ◌+◌, ◌++◌, ℕ, List, None, false, length, take}
+use Rattle.std.specs.Prelude.{◌≡◌, ◌≤◌, ◌+◌, ◌++◌, ℕ, List, None, length, take}
 use Rattle.msg_names.specs.declared.value.ClassRef.{ClassRef}
 use Rattle.msg_tables.specs.History.{log, lookup}
 use Rattle.msg_tables.specs.Log.{table_after_all}
@@ -10,9 +10,8 @@ use Rattle.msg_tables.specs.Several.{refused_from}
 use Rattle.msg_tables.specs.Undo.{undo_all}
 use Rattle.msg_tables.specs.declared.change.Change.{Change}
 use Rattle.msg_runtime.specs.View.{RuntimeView}
-use Rattle.msg_host.specs.Config.{host_origin, is_beyond}
+use Rattle.msg_host.specs.Config.{IsHostOrigin}
 use Rattle.msg_host.specs.Listing.{AreMeant, LackMemoryAt, MakesRows, UndoesRows}
-use Rattle.msg_host.specs.declared.config.HostConfig.{HostConfig}
 use Rattle.msg_host.specs.declared.config.TheConstants.{HOST_CHANGES}
 use Rattle.msg_host.specs.declared.listing.ChangeRow.{ChangeRow}
 
@@ -25,15 +24,14 @@ pub record TakesBack (rows : List ChangeRow) (v w : RuntimeView) : Type 0 where
   pub lookups : (c : ClassRef) (s : ℕ) → lookup (and_as_one w.keeper.history changes) c s ≡ lookup v.keeper.history c s
   pub memory : (place : ℕ) → LackMemoryAt rows w place → ⊥
 
--- The history is one of accepted changes, and began as a config says.
-pub record IsHosts (config : HostConfig) (v : RuntimeView) : Type 0 where
-  pub within : is_beyond config ≡ false
-  pub origin : v.keeper.history.origin ≡ host_origin config
+-- The history is one of accepted changes, and began as some config says.
+pub record IsHosts (v : RuntimeView) : Type 0 where
+  pub origin : IsHostOrigin v.keeper.history.origin
   pub log : IsLog (log v.keeper.history)
 
 -- This holds for the rows that are written when a list of rows is made, directly after it.
 abbrev pub EveryListHasWayBack : Type 0
-EveryListHasWayBack = (config : HostConfig) (v w : RuntimeView) (rows undo : List ChangeRow) (n : ℕ) → IsHosts config v → MakesRows rows v w → UndoesRows rows v.keeper.history undo n → TakesBack (take n undo) v w
+EveryListHasWayBack = (v w : RuntimeView) (rows undo : List ChangeRow) (n : ℕ) → IsHosts v → MakesRows rows v w → UndoesRows rows v.keeper.history undo n → TakesBack (take n undo) v w
 
 -- Two lists that are made as one go back by the way back of the second, by the tables between them,
 -- and then by that of the first.

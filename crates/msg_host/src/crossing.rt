@@ -6,12 +6,10 @@ use crate::sender::HostedSender;
 // A call at a type requires that its values may go to another thread.
 fn may_cross<T: Send>() {}
 
-/// A `HostedRuntime` may go to another thread.
-pub fn a_runtime_may_cross() {
+pub(crate) fn a_runtime_may_cross() {
     may_cross::<HostedRuntime>();
 }
 
-/// A `HostedSender` may go to another thread.
-pub fn a_sender_may_cross() {
+pub(crate) fn a_sender_may_cross() {
     may_cross::<HostedSender>();
 }

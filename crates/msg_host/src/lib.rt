@@ -27,7 +27,6 @@ pub use config::{
     DEFAULT_ARRAYS, DEFAULT_CLASSES, DEFAULT_SENDERS, HostConfig, MOST_ARRAYS, MOST_CLASSES,
     MOST_SENDERS,
 };
-pub use crossing::{a_runtime_may_cross, a_sender_may_cross};
 pub use fault::{AskFault, OpenFault, SenderFault};
 pub use listing::ChangeRow;
 pub use lookups::LookupRow;

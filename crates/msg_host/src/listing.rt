@@ -4,6 +4,7 @@ ghost use Rattle.std.specs.Prelude.{◌≡◌, ◌≢◌, ◌<◌, ◌≤◌, �
 ghost use Rattle.std.specs.Result.{is_ok};
 ghost use Rattle.msg_tables.specs.FaultNumber.{change_fault_number};
 ghost use Rattle.msg_tables.specs.declared.fault.ChangeFault.{ChangeFault};
+ghost use Rattle.msg_runtime.specs.Calls.{KeepsAtLeastRoom};
 ghost use Rattle.msg_host.specs.Asking.{IsLeft, want_of_memory, want_of_room};
 ghost use Rattle.msg_host.specs.Listing.{AreMeant, AreRowsRefusedAt, AreUnmadeRows, FlushesRows, IsBadRow, LackMemoryIf, MakesRows, TellsRowsBack};
 ghost use Rattle.msg_host.specs.Listing.{are_meant, change_in, changes_in, covering_in, exchange_in, method_in, read, ref_in, removal_in};
@@ -231,6 +232,7 @@ impl HostedRuntime {
         ensures given { self.new.keeper.given ≡ self.old.keeper.given }
         ensures rested { self.new.rested ≡ self.old.rested }
         ensures made { OnOk result (MakesRows rows.now self.old self.new) }
+        ensures keeps_room { OnOk result (KeepsAtLeastRoom self.old self.new) }
         ensures flushed { OnOk result (FlushesRows rows.now self.old self.new) }
         ensures back { OnOk result (TellsRowsBack rows.now self.old.keeper.history self.new.written.entries) }
         ensures fits { OnOk result (length self.new.written.entries ≤ most) }
@@ -257,6 +259,7 @@ impl HostedRuntime {
         ensures given { self.new.keeper.given ≡ self.old.keeper.given }
         ensures rested { self.new.rested ≡ self.old.rested }
         ensures made { result ≡ 0 → MakesRows rows.now self.old self.new }
+        ensures keeps_room { result ≡ 0 → KeepsAtLeastRoom self.old self.new }
         ensures flushed { result ≡ 0 → FlushesRows rows.now self.old self.new }
         ensures left { result ≢ 0 → IsLeft self.old self.new }
         ensures place { result ≢ 0 → place.new < length rows.now }

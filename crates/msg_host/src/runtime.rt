@@ -20,7 +20,7 @@ ghost use Rattle.msg_runtime.specs.Changed.{IsAccepted, IsMadeAt, IsRefusedAt, I
 ghost use Rattle.msg_runtime.specs.Calls.{AllAreOut, CachesAnswer, HoldsRoomFor, KeepsAtLeastRoom, KeepsRoom, LacksRoomFor, MarksAllReached, RestsAs, WantsRoom, WantsRoomIf};
 ghost use Rattle.msg_host.specs.Asking.{IsLeft};
 ghost use Rattle.msg_runtime.specs.Parts.{IsNew};
-ghost use Rattle.msg_runtime.specs.Spared.{ChillsAffected, SparesOthers};
+ghost use Rattle.msg_runtime.specs.Spared.{ChillsAffected, OnlyFlushesOf, SparesOthers};
 ghost use Rattle.msg_runtime.specs.declared.runtime.TheConstants.{OPENING_ENTRIES};
 ghost use Rattle.msg_host.specs.Config.{IsHostOrigin, is_beyond};
 ghost use Rattle.msg_host.specs.Opening.{OpensAs};
@@ -134,6 +134,7 @@ impl HostedRuntime {
         ensures held { OnOk result (HoldsRoomFor self.old self.new (change.now ∷ [])) }
         ensures cold { OnOk result (ChillsAffected (change.now ∷ []) self.old self.new) }
         ensures spared { OnOk result (SparesOthers (change.now ∷ []) self.old self.new) }
+        ensures flushes { OnOk result (OnlyFlushesOf self.old self.new) }
         ensures room { KeepsAtLeastRoom self.old self.new }
         ensures given { self.new.keeper.given ≡ self.old.keeper.given }
         ensures rested { self.new.rested ≡ self.old.rested }
@@ -165,6 +166,7 @@ impl HostedRuntime {
         ensures held { OnOk result (HoldsRoomFor self.old self.new (L.changes changes.now)) }
         ensures cold { OnOk result (ChillsAffected (L.changes changes.now) self.old self.new) }
         ensures spared { OnOk result (SparesOthers (L.changes changes.now) self.old self.new) }
+        ensures flushes { OnOk result (OnlyFlushesOf self.old self.new) }
         ensures room { KeepsAtLeastRoom self.old self.new }
         ensures given { self.new.keeper.given ≡ self.old.keeper.given }
         ensures rested { self.new.rested ≡ self.old.rested }

@@ -2,6 +2,7 @@
 
 ghost use Rattle.std.specs.Prelude.{◌≡◌, ◌≢◌, ◌<◌, ◌≤◌, ◌⊎◌, length, take};
 ghost use Rattle.msg_tables.specs.Journal.{undo_journal};
+ghost use Rattle.msg_runtime.specs.Calls.{KeepsAtLeastRoom};
 ghost use Rattle.msg_host.specs.Asking.{IsLeft, IsRefusal, want_of_room};
 ghost use Rattle.msg_host.specs.Listing as spec;
 ghost use Rattle.msg_host.specs.Listing.{AreMeant, AreRefusedRows, FlushesRows, LackMemoryIf, MakesRows, UndoesRows, WeighRows};
@@ -100,6 +101,7 @@ impl HostedRuntime {
         ensures given { self.new.keeper.given ≡ self.old.keeper.given }
         ensures rested { self.new.rested ≡ self.old.rested }
         ensures made { result ≡ 0 → MakesRows rows.now self.old self.new }
+        ensures keeps_room { result ≡ 0 → KeepsAtLeastRoom self.old self.new }
         ensures flushed { result ≡ 0 → FlushesRows rows.now self.old self.new }
         ensures undo { result ≡ 0 → UndoesRows rows.now self.old.keeper.history undo.new undone.new }
         ensures back { result ≡ 0 → TakesBack (take undone.new undo.new) self.old self.new }

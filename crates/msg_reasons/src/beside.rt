@@ -107,8 +107,8 @@ impl<'c> Beside<'c> {
 ///
 /// The first of the versions is that of the first lookup, and so on. A version is the number of
 /// items of changes that were made. No version goes back: one that is less than the one before it,
-/// or that is missing, counts as the one before it. A version above the number of items of changes
-/// counts as that number. The only error is a lack of memory.
+/// or that is missing, counts as the one before it. A version above the number of those that are
+/// made counts as that number. The only error is a lack of memory.
 pub fn explain_beside(
     alloc: Global,
     document: &Document,

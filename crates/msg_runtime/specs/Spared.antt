@@ -8,6 +8,7 @@ use Rattle.msg_tables.specs.Stands.{StandsAt}
 use Rattle.msg_tables.specs.View.{TablesView}
 use Rattle.msg_tables.specs.declared.change.Change.{Change}
 use Rattle.msg_model.specs.State.{Layout}
+use Rattle.msg_cache.specs.Flushes.{OnlyFlushes}
 use Rattle.msg_cache.specs.Layout.{stamp_at}
 use Rattle.msg_cache.specs.Rule.{live_in, word_in}
 use Rattle.msg_cache.specs.Views.{ArenaView, classes, layout}
@@ -18,7 +19,7 @@ use Rattle.msg_runtime.specs.Parts.{keeper_view}
 use Rattle.msg_runtime.specs.View.{RuntimeView}
 
 -- A class reference has the live array that it had, with the same words, and the same stamp. So
--- what its cache has is still found, and what was noted of it still holds.
+-- what was noted of it still holds.
 pub record IsSpared (z : Layout) (k k' : KeeperView) (c : ClassRef) : Type 0 where
   pub array : live_in z k'.words c ≡ live_in z k.words c
   pub words : (a : ℕ) → live_in z k.words c ≡ Some a → word_in z k'.words a ≡ word_in z k.words a
@@ -42,3 +43,8 @@ ChillsAffected xs v w = (c : ClassRef) → c.class < classes v.arena → is_affe
 -- each that it doesn't affect is spared
 abbrev pub SparesOthers : List Change → RuntimeView → RuntimeView → Type 0
 SparesOthers xs v w = (c : ClassRef) → is_affected_by_all (log v.keeper.history) xs c ≡ false → IsSpared (layout v.arena) v.keeper w.keeper c
+
+-- There were only flushes: the capacity of each array that was lost is remembered, each such array
+-- was counted once, and nothing else was remembered or counted.
+abbrev pub OnlyFlushesOf : RuntimeView → RuntimeView → Type 0
+OnlyFlushesOf v w = OnlyFlushes (layout v.arena) v.keeper w.keeper v.remembered w.remembered v.report w.report

@@ -7,7 +7,7 @@ ghost use Rattle.msg_tables.specs.Below.{covers};
 ghost use Rattle.msg_tables.specs.Chain.{is_member};
 ghost use Rattle.msg_tables.specs.Log.{chain_at};
 ghost use Rattle.msg_tables.specs.Marking.{is_of};
-ghost use Rattle.msg_cache.specs.Ours.{IsCold};
+ghost use Rattle.msg_cache.specs.Ours.{IsCold, OnlyFlushesIn};
 ghost use Rattle.msg_runtime.specs.Flushed.{AreClasses, ClassIsFlushed, IsFlushedBelow, StayFlushed};
 ghost use Rattle.msg_runtime.specs.Parts.{IsKeeperOf, keeper_history, keeper_seats};
 ghost use Rattle.msg_runtime.specs.Spared.{AreSpared, SparesUnless};
@@ -27,6 +27,7 @@ pub(crate) fn flush_class(keeper: &mut Keeper, arena: &Arena, class: u32, own: b
     ensures flushed { ClassIsFlushed arena.now keeper.new class own meta }
     ensures others { StayFlushed arena.now keeper.old keeper.new }
     ensures spared { SparesUnless (is_of class own meta) arena.now keeper.old keeper.new }
+    ensures flushes { OnlyFlushesIn arena.now keeper.old keeper.new }
 {
     if own {
         keeper.chill(arena, ClassRef { class, meta: false });
@@ -47,6 +48,7 @@ fn flush_each(keeper: &mut Keeper, arena: &Arena, below: Below<'_>)
     ensures flushed { (c : ClassRef) → covers below.entry c ≡ true → IsCold arena.now keeper.new c }
     ensures others { StayFlushed arena.now keeper.old keeper.new }
     ensures spared { SparesUnless (covers below.entry) arena.now keeper.old keeper.new }
+    ensures flushes { OnlyFlushesIn arena.now keeper.old keeper.new }
 {
     let own = below.has_classes();
     let meta = below.has_metaclasses();
@@ -68,6 +70,7 @@ pub(crate) fn flush_below(keeper: &mut Keeper, arena: &Arena, tables: &Tables, c
     ensures flushed { IsFlushedBelow arena.now tables.now keeper.new class }
     ensures others { StayFlushed arena.now keeper.old keeper.new }
     ensures spared { AreSpared arena.now tables.now keeper.old keeper.new (λ h c. is_member class (chain_at h c)) }
+    ensures flushes { OnlyFlushesIn arena.now keeper.old keeper.new }
 {
     flush_each(keeper, arena, tables.below(class));
 }
@@ -80,6 +83,7 @@ pub(crate) fn flush_all(keeper: &mut Keeper, arena: &Arena, classes: u32)
     ensures history { keeper_history keeper.new ≡ keeper_history keeper.old }
     ensures seats { keeper_seats keeper.new ≡ keeper_seats keeper.old }
     ensures flushed { (c : ClassRef) → c.class < classes → IsCold arena.now keeper.new c }
+    ensures flushes { OnlyFlushesIn arena.now keeper.old keeper.new }
 {
     for class in 0..classes {
         flush_class(keeper, arena, class, true, true);

@@ -7,6 +7,7 @@ ghost use Rattle.msg_tables.specs.Journal.{NamesListed};
 ghost use Rattle.msg_tables.specs.Making.{is_told};
 ghost use Rattle.msg_tables.specs.Origin.{class_total};
 ghost use Rattle.msg_tables.specs.Recent.{HasPlace};
+ghost use Rattle.msg_cache.specs.Ours.{OnlyFlushesIn};
 ghost use Rattle.msg_runtime.specs.Flushed.{AreFlushed, FirstAreFlushed, IsFlushedBelow, StayFlushed};
 ghost use Rattle.msg_runtime.specs.Parts.{IsKeeperOf, keeper_history, keeper_seats};
 ghost use Rattle.msg_runtime.specs.Reach.{flushes_all, is_flushed, is_set, is_set_alone};
@@ -29,6 +30,7 @@ fn flush_entry(keeper: &mut Keeper, arena: &Arena, tables: &Tables, entry: Entry
     ensures flushed { AreFlushed arena.now tables.now keeper.new (λ h. is_told h (entry ∷ [])) }
     ensures others { StayFlushed arena.now keeper.old keeper.new }
     ensures spared { AreSpared arena.now tables.now keeper.old keeper.new (λ h. is_told h (entry ∷ [])) }
+    ensures flushes { OnlyFlushesIn arena.now keeper.old keeper.new }
 {
     if let Entry::Made { class } | Entry::Disposed { class, .. } = entry {
         flush_class(keeper, arena, class, true, true);
@@ -57,6 +59,7 @@ fn flush_once(
     ensures recent { (c : ClassRef) → HasPlace recent.new c → IsFlushedBelow arena.now tables.now keeper.new c }
     ensures others { StayFlushed arena.now keeper.old keeper.new }
     ensures spared { AreSpared arena.now tables.now keeper.old keeper.new (λ h. is_told h (entry ∷ [])) }
+    ensures flushes { OnlyFlushesIn arena.now keeper.old keeper.new }
 {
     if !recent.had(&entry) {
         flush_entry(keeper, arena, tables, entry);
@@ -75,6 +78,7 @@ fn flush_both(keeper: &mut Keeper, arena: &Arena, tables: &Tables, first: Entry,
     ensures seats { keeper_seats keeper.new ≡ keeper_seats keeper.old }
     ensures flushed { AreFlushed arena.now tables.now keeper.new (λ h. is_told h (first ∷ second ∷ [])) }
     ensures spared { AreSpared arena.now tables.now keeper.old keeper.new (λ h. is_told h (first ∷ second ∷ [])) }
+    ensures flushes { OnlyFlushesIn arena.now keeper.old keeper.new }
 {
     flush_entry(keeper, arena, tables, first);
     if let (Some(one), Some(other)) = (first.place(), second.place()) {
@@ -97,6 +101,7 @@ fn flush_each(keeper: &mut Keeper, arena: &Arena, tables: &Tables, entries: &[En
     ensures seats { keeper_seats keeper.new ≡ keeper_seats keeper.old }
     ensures flushed { AreFlushed arena.now tables.now keeper.new (λ h. is_told h entries.now) }
     ensures spared { AreSpared arena.now tables.now keeper.old keeper.new (λ h. is_told h entries.now) }
+    ensures flushes { OnlyFlushesIn arena.now keeper.old keeper.new }
 {
     let mut recent = Recent::none();
     for entry in entries {
@@ -118,6 +123,7 @@ fn flush_written(keeper: &mut Keeper, arena: &Arena, tables: &Tables, entries: &
     ensures seats { keeper_seats keeper.new ≡ keeper_seats keeper.old }
     ensures flushed { AreFlushed arena.now tables.now keeper.new (λ h. is_told h entries.now) }
     ensures spared { AreSpared arena.now tables.now keeper.old keeper.new (λ h. is_told h entries.now) }
+    ensures flushes { OnlyFlushesIn arena.now keeper.old keeper.new }
 {
     if entries.len() == 1 {
         flush_entry(keeper, arena, tables, entries[0]);
@@ -186,6 +192,7 @@ pub(crate) fn flush_changed<L: ChangeList>(
         (λ h. is_flushed tables.now.counts (L.changes changes.now) h entries.now) }
     ensures spared { flushes_all tables.now.counts (L.changes changes.now) ≡ false
         → AreSpared arena.now tables.now keeper.old keeper.new (λ h. is_told h entries.now) }
+    ensures flushes { OnlyFlushesIn arena.now keeper.old keeper.new }
 {
     if flushes_all(tables, changes) {
         flush_all(keeper, arena, classes);

@@ -19,7 +19,7 @@ ghost use Rattle.msg_runtime.specs.Calls.{AllAreOut, CachesAnswer, CountsRefusal
 ghost use Rattle.msg_runtime.specs.Changed.{IsAccepted, IsMadeAt, IsRefusedAt, IsUnmade};
 ghost use Rattle.msg_runtime.specs.Parts.{IsKeeperOf, IsNew, keeper_history};
 ghost use Rattle.msg_runtime.specs.Reach.{flushes_all};
-ghost use Rattle.msg_runtime.specs.Spared.{ChillsAffected, SparesOthers};
+ghost use Rattle.msg_runtime.specs.Spared.{ChillsAffected, OnlyFlushesOf, SparesOthers};
 ghost use Rattle.msg_runtime.specs.declared.runtime.TheConstants.{OPENING_ENTRIES};
 
 use crate::caching::cache_found;
@@ -285,6 +285,7 @@ impl Runtime {
         ensures cold { OnOk result (ChillsAffected (change.now ∷ []) self.old self.new) }
         ensures spared { OnOk result (flushes_all self.old.keeper.history.origin.counts (change.now ∷ []) ≡ false
             → SparesOthers (change.now ∷ []) self.old self.new) }
+        ensures flushes { OnOk result (OnlyFlushesOf self.old self.new) }
         ensures room { KeepsAtLeastRoom self.old self.new }
         ensures wanting { IsErrOf result ChangeFault.Memory → LacksRoomFor self.old (change.now ∷ []) }
         ensures no_row { IsErrOf result ChangeFault.Memory
@@ -334,6 +335,7 @@ impl Runtime {
         ensures cold { OnOk result (ChillsAffected (L.changes changes.now) self.old self.new) }
         ensures spared { OnOk result (flushes_all self.old.keeper.history.origin.counts (L.changes changes.now) ≡ false
             → SparesOthers (L.changes changes.now) self.old self.new) }
+        ensures flushes { OnOk result (OnlyFlushesOf self.old self.new) }
         ensures room { KeepsAtLeastRoom self.old self.new }
         ensures rows { HasRoomForRows self.old }
         ensures wanting { IfErr result (WantsRoom self.old (L.changes changes.now)) }
@@ -377,6 +379,7 @@ impl Runtime {
         ensures cold { OnOk result (ChillsAffected (L.changes changes.now) self.old self.new) }
         ensures spared { OnOk result (flushes_all self.old.keeper.history.origin.counts (L.changes changes.now) ≡ false
             → SparesOthers (L.changes changes.now) self.old self.new) }
+        ensures flushes { OnOk result (OnlyFlushesOf self.old self.new) }
         ensures room { KeepsAtLeastRoom self.old self.new }
         ensures rows { HasRoomForRows self.old }
         ensures wanting { IfErr result (WantsRoomIf self.old (L.changes changes.now)) }

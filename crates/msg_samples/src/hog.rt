@@ -1,5 +1,8 @@
 //! A process without free memory.
 
+ghost use Rattle.std.specs.Prelude.{◌≡◌, ◌<◌, ◌≤◌, ◌+◌, [], true, false, length, IfOk, OnOk};
+ghost use Rattle.msg_samples.specs.declared.hog.TheConstants.{PIECES};
+
 use std::alloc::{AllocError, Global};
 use std::env::{self, Env};
 
@@ -23,7 +26,9 @@ impl Hog {
     ///
     /// If there is no environment nothing is taken: so tests are tried without a proof, over an
     /// allocator that has more memory than there is.
-    pub fn new<R: Env + AllocGlobal>(rt: &R) -> Result<Hog, AllocError> {
+    pub fn new<R: Env + AllocGlobal>(rt: &R) -> Result<Hog, AllocError>
+        ensures pieces { IfOk result (λ h. 0 < length h.blocks.items → length h.pieces.items ≡ PIECES) }
+    {
         let alloc = rt.alloc();
         let mut hog = Hog {
             blocks: Vec::with_capacity(alloc, MOST)?,
@@ -36,7 +41,10 @@ impl Hog {
         Ok(hog)
     }
 
-    fn keep_pieces(&mut self, alloc: Global) -> Result<(), AllocError> {
+    fn keep_pieces(&mut self, alloc: Global) -> Result<(), AllocError>
+        ensures pieces { OnOk result (length self.new.pieces.items ≡ length self.old.pieces.items + PIECES) }
+        ensures blocks { self.new.blocks.items ≡ self.old.blocks.items }
+    {
         for _piece in 0..PIECES {
             self.pieces.push(Vec::with_capacity(alloc, PIECE)?)?;
         }
@@ -45,7 +53,10 @@ impl Hog {
 
     // Takes blocks that are only reserved: from more than an address space has down to the
     // smallest.
-    fn take_all(&mut self, alloc: Global) {
+    fn take_all(&mut self, alloc: Global)
+        ensures pieces { self.new.pieces.items ≡ self.old.pieces.items }
+        ensures blocks { length self.old.blocks.items ≤ length self.new.blocks.items }
+    {
         let mut size = 1 << 46;
         for _halving in 0..35 {
             self.take(alloc, size);
@@ -58,14 +69,21 @@ impl Hog {
     }
 
     /// Takes what has become free since, if it took all before.
-    pub fn fill(&mut self, alloc: Global) {
+    pub fn fill(&mut self, alloc: Global)
+        ensures pieces { self.new.pieces.items ≡ self.old.pieces.items }
+        ensures blocks { length self.old.blocks.items ≤ length self.new.blocks.items }
+        ensures empty { length self.old.blocks.items ≡ 0 → self.new.blocks.items ≡ [] }
+    {
         if self.is_full() {
             self.take_all(alloc);
         }
     }
 
     // Takes blocks of a size until none is left.
-    fn take(&mut self, alloc: Global, size: usize) {
+    fn take(&mut self, alloc: Global, size: usize)
+        ensures pieces { self.new.pieces.items ≡ self.old.pieces.items }
+        ensures blocks { length self.old.blocks.items ≤ length self.new.blocks.items }
+    {
         for _block in 0..MOST {
             let Ok(block) = Vec::with_capacity(alloc, size) else {
                 return;
@@ -77,13 +95,20 @@ impl Hog {
     }
 
     /// Whether all memory was taken.
-    pub fn is_full(&self) -> bool {
+    pub fn is_full(&self) -> bool
+        ensures full { result ≡ true → 0 < length self.now.blocks.items }
+        ensures empty { result ≡ false → length self.now.blocks.items ≡ 0 }
+    {
         !self.blocks.is_empty()
     }
 
     /// Gives a little memory back, and more once it has done so some thousand times. Says whether
     /// there was any.
-    pub fn give_back(&mut self) -> bool {
+    pub fn give_back(&mut self) -> bool
+        ensures none { result ≡ false → (length self.old.pieces.items ≡ 0) × (length self.old.blocks.items ≡ 0) }
+        ensures one { result ≡ true → length self.old.pieces.items + length self.old.blocks.items
+            ≡ length self.new.pieces.items + length self.new.blocks.items + 1 }
+    {
         self.pieces.pop().is_some() || self.blocks.pop().is_some()
     }
 }

@@ -1,5 +1,9 @@
 //! One text read by `serde_json` and by `msg_json`.
 
+ghost use Rattle.std.specs.Prelude.{◌≡◌, IsUtf8, None, is_some, true};
+ghost use Rattle.serde_json.specs.Read.{read as read_text};
+ghost use Rattle.msg_samples.specs.declared.readers.Readings.TheVariants as Readings;
+
 use msg_json::{Bump, JsonFault, Scratch, Tree, get, has_keys, read};
 use serde_json::{Error, Map, Value};
 use std::alloc::Global;
@@ -16,7 +20,10 @@ pub enum Readings {
 }
 
 /// Reads the text by both.
-pub fn read_by_both(alloc: Global, text: &[u8]) -> Readings {
+pub fn read_by_both(alloc: Global, text: &[u8]) -> Readings
+    ensures same { result ≡ Readings.Same → IsUtf8 text.now × (is_some (read_text text.now) ≡ true) }
+    ensures refused { result ≡ Readings.Refused → IsUtf8 text.now → read_text text.now ≡ None }
+{
     let mut scratch = Scratch::new(alloc);
     let bump = Bump::new(alloc);
     beside(
@@ -35,7 +42,10 @@ fn beside<'t>(
     text: &'t [u8],
     scratch: &'t mut Scratch,
     value: &Result<Value, Error>,
-) -> Readings {
+) -> Readings
+    ensures same { result ≡ Readings.Same → IsUtf8 text.now × (is_some (read_text text.now) ≡ true) }
+    ensures refused { result ≡ Readings.Refused → IsUtf8 text.now → read_text text.now ≡ None }
+{
     match (read(alloc, bump, text, scratch), value) {
         (Ok(tree), Ok(value)) if is_value(&tree, value, 128) => Readings::Same,
         (Err(JsonFault::NotJson), Err(error)) if !error.is_memory() => Readings::Refused,

@@ -1,6 +1,7 @@
 use Rattle.std.proofs.Common.{◌≡◌, rules, subst}
 use Rattle.std.specs.Prelude.{OnOk}
 use Rattle.msg_reader.specs.Cost.{ProbesOnceAtMost}
+use Rattle.msg_reader.specs.Kept.{MissesUnlessChanged}
 use Rattle.msg_host.specs.Named.{ref_of}
 use Rattle.msg_host.specs.View.{SenderView}
 use Rattle.msg_c.proofs.NoteLemmas.{notes_left}
@@ -21,3 +22,11 @@ returns-in-Ok-None-clause-probed c u w was is =
     let probed = subst (λ r. OnOk r (ProbesOnceAtMost c.deref_mut.result.now.arena (ref_of c.args.class c.args.meta) c.args.sel c.deref_mut.result.now.seen c.probe-found.new.self.seen)) c.in-Ok-None.is c.probe-found.ensures.probed in
     subst (λ (v : SenderView). ProbesOnceAtMost v.arena (ref_of c.args.class c.args.meta) c.args.sel v.seen w.seen) before
     (subst (λ (v : SenderView). ProbesOnceAtMost c.deref_mut.result.now.arena (ref_of c.args.class c.args.meta) c.args.sel c.deref_mut.result.now.seen v.seen) after probed)
+
+pub returns-in-Ok-None-clause-missed : goal.returns-in-Ok-None-clause-missed
+returns-in-Ok-None-clause-missed c none u w was is =
+    let before : c.deref_mut.result.now ≡ u = search rules in
+    let after : c.probe-found.new.self ≡ w = search rules in
+    let missed : MissesUnlessChanged c.deref_mut.result.now.arena (ref_of c.args.class c.args.meta) c.args.sel c.deref_mut.result.now.seen c.probe-found.new.self.seen = search rules in
+    subst (λ (v : SenderView). MissesUnlessChanged v.arena (ref_of c.args.class c.args.meta) c.args.sel v.seen w.seen) before
+    (subst (λ (v : SenderView). MissesUnlessChanged c.deref_mut.result.now.arena (ref_of c.args.class c.args.meta) c.args.sel c.deref_mut.result.now.seen v.seen) after missed)

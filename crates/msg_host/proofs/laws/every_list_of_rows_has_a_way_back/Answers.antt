@@ -14,15 +14,15 @@ use Rattle.msg_host.proofs.WayBackLemmas.{host-fit, log-as_one, length-all, rows
 use Rattle.msg_host.proofs.laws.every_list_of_rows_has_a_way_back.Goals as goal
 
 pub returns : goal.returns
-returns c = λ config v w rows undo n is (xs, meant, made, held) (zs, also, back).
+returns c = λ v w rows undo n is (xs, meant, made, held) (zs, also, back).
     let h = log v.keeper.history in
     let same : zs ≡ xs = meant-same rows zs xs also meant in
     let ys = undo_all (table h) xs in
     let means : AreMeant (take n undo) ys = subst (λ us. AreMeant (take n undo) (undo_all (table h) us)) same back in
     let longer : log w.keeper.history ≡ and_all h xs = ap log made.history ∙ log-as_one v.keeper.history xs in
     let ready : IsMadeAt h xs = record {
-      sound = subst IsSound (sym is.origin) (host_origin_sound config (few-classes config is.within));
-      fit = subst AreFit (sym is.origin) (host-fit config);
+      sound = subst IsSound (sym is.origin.origin) (host_origin_sound is.origin.config (few-classes is.origin.config is.origin.within));
+      fit = subst AreFit (sym is.origin.origin) (host-fit is.origin.config);
       log = is.log;
       accepted = c.parts_are_accepted_one_after_another.ensures.accepted h xs 0 made.accepted;
       numbered = rows-numbered rows xs meant;
@@ -32,7 +32,7 @@ returns c = λ config v w rows undo n is (xs, meant, made, held) (zs, also, back
       meant = means;
       accepted = λ few.
           let many : length (log w.keeper.history).changes ≡ length h.changes + length xs = ap (λ (g : Log). length g.changes) longer ∙ length-all h xs in
-          let limit = ap (λ (o : OriginView). o.limits.changes) is.origin in
+          let limit = ap (λ (o : OriginView). o.limits.changes) is.origin.origin in
           subst (λ g. refused_from 0 g ys ≡ None) (sym longer) (c.a_way_back_is_accepted.ensures h xs ready (omega (arith, few, many, limit)));
       lookups = λ d s.
           ap (λ g. logs.lookup g d s) (log-as_one w.keeper.history ys ∙ ap (λ g. and_all g ys) longer) ∙ c.a_way_back_brings_back_each_lookup.ensures.lookups h xs d s ready;

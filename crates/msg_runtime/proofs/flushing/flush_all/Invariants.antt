@@ -1,6 +1,6 @@
 use Rattle.std.proofs.Common.{◌≡◌, ◌<◌}
 use Rattle.msg_names.specs.declared.value.ClassRef.{ClassRef}
-use Rattle.msg_cache.specs.Ours.{IsCold}
+use Rattle.msg_cache.specs.Ours.{IsCold, OnlyFlushesIn}
 use Rattle.msg_runtime.specs.Parts.{IsKeeperOf, keeper_history, keeper_seats}
 use Rattle.msg_runtime.proofs.flushing.flush_all.Given as goal
 
@@ -10,3 +10,4 @@ invariant-loop-class l =
     × (keeper_history l.keeper ≡ keeper_history l.fn.keeper)
     × (keeper_seats l.keeper ≡ keeper_seats l.fn.keeper)
     × ((c : ClassRef) → c.class < l.class → IsCold l.arena l.keeper c)
+    × OnlyFlushesIn l.arena l.fn.keeper l.keeper

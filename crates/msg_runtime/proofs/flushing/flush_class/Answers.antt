@@ -4,6 +4,8 @@ use Rattle.std.specs.Prelude.{◌&&◌, if◌then◌else◌}
 use Rattle.msg_names.proofs.TestLemmas.{equal}
 use Rattle.msg_names.specs.declared.value.ClassRef.{ClassRef}
 use Rattle.msg_tables.specs.Marking.{is_of}
+use Rattle.msg_cache.proofs.FlushesLemmas.{only-on_in, only-same_in}
+use Rattle.msg_cache.specs.Ours.{OnlyFlushesIn}
 use Rattle.msg_cache.specs.Views.{classes, layout}
 use Rattle.msg_runtime.specs.Parts.{IsKeeperOf, keeper_view}
 use Rattle.msg_runtime.specs.Spared.{IsSpared}
@@ -45,4 +47,23 @@ returns-else-meta-clause-spared c = λ d e.
           (chilled-spares a k w.chill.new.self (record { class = c.args.class; meta = false }) d c.requires.arena lt w.chill.ensures.view
           (apart c.args.class c.args.own c.args.meta false d e w.if-own.true))
       | else-own w ↦ subst (λ i. IsSpared (layout a) (keeper_view k) (keeper_view i) d) (sym w.keeper-is) (spared-same (layout a) (keeper_view k) d)
+    ]
+
+pub returns-then-meta-clause-flushes : goal.returns-then-meta-clause-flushes
+returns-then-meta-clause-flushes c =
+    let a = c.args.arena.now in
+    let k = c.args.keeper.now in
+    let own : OnlyFlushesIn a k c.if-own.keeper = elim c.if-own.branch [
+      | then-own w ↦ subst (λ i. OnlyFlushesIn a k i) (sym w.keeper-is) w.chill.ensures.flushes
+      | else-own w ↦ subst (λ i. OnlyFlushesIn a k i) (sym w.keeper-is) (only-same_in a k)
+    ] in
+    only-on_in a k c.if-own.keeper c.chill-then-meta.new.self own c.chill-then-meta.ensures.flushes
+
+pub returns-else-meta-clause-flushes : goal.returns-else-meta-clause-flushes
+returns-else-meta-clause-flushes c =
+    let a = c.args.arena.now in
+    let k = c.args.keeper.now in
+    elim c.if-own.branch [
+      | then-own w ↦ subst (λ i. OnlyFlushesIn a k i) (sym w.keeper-is) w.chill.ensures.flushes
+      | else-own w ↦ subst (λ i. OnlyFlushesIn a k i) (sym w.keeper-is) (only-same_in a k)
     ]

@@ -9,6 +9,7 @@ use Rattle.msg_tables.specs.History.{History}
 use Rattle.msg_tables.specs.Preorder.{is_in}
 use Rattle.msg_cache.specs.Ours.{IsCold}
 use Rattle.msg_tables.proofs.PreorderLemmas.{first-in, later-in}
+use Rattle.msg_cache.proofs.FlushesLemmas.{only-on_in, only-same_in}
 use Rattle.msg_cache.specs.Views.{layout}
 use Rattle.msg_runtime.specs.Parts.{keeper_view}
 use Rattle.msg_runtime.proofs.SparedLemmas.{spared-on, spared-same}
@@ -40,6 +41,7 @@ loop-class-init c =
       flushed = λ d e. inl (ap (λ ks. cond d.meta c.args.below.meta c.args.below.own && is_in d.class ks) same ∙ e);
       others = λ d e. e;
       spared = λ d e. spared-same (layout c.args.arena.now) (keeper_view c.args.keeper.now) d;
+      flushes = only-same_in c.args.arena.now c.args.keeper.now;
     }
 
 pub flush_class-requires-clause-class : goal.flush_class-requires-clause-class
@@ -58,6 +60,7 @@ loop-class-preserved c = record {
   others = λ d e. c.flush_class.ensures.others d (c.loop-class.invariant.others d e);
   spared = λ d e. spared-on (layout c.args.arena.now) (keeper_view c.args.keeper.now) (keeper_view c.loop-class.keeper) (keeper_view c.flush_class.new.keeper) d
       (c.loop-class.invariant.spared d e) (c.flush_class.ensures.spared d (apart d e));
+  flushes = only-on_in c.args.arena.now c.args.keeper.now c.loop-class.keeper c.flush_class.new.keeper c.loop-class.invariant.flushes c.flush_class.ensures.flushes;
 }
   where
     kind : ClassRef → Bool

@@ -2,6 +2,7 @@ use Rattle.std.proofs.Common.{◌≡◌, [], ◌∷◌, Some, ap, sym, ◌∙◌
 use Rattle.msg_names.proofs.ClassRefLemmas.{slot_of-same}
 use Rattle.msg_tables.specs.Journal.{place_of}
 use Rattle.msg_runtime.proofs.FlushedLemmas.{told-both, told-too}
+use Rattle.msg_cache.proofs.FlushesLemmas.{only-on_in}
 use Rattle.msg_cache.specs.Views.{layout}
 use Rattle.msg_runtime.specs.Parts.{keeper_view}
 use Rattle.msg_runtime.proofs.SparedLemmas.{spared-on, untold-both}
@@ -31,3 +32,7 @@ returns-clause-spared c = λ h stands d untold.
     let (one, two) = untold-both h (c.args.first ∷ []) (c.args.second ∷ []) d untold in
     spared-on (layout c.args.arena.now) (keeper_view c.args.keeper.now) (keeper_view c.flush_entry.new.keeper) (keeper_view c.flush_entry-2.new.keeper) d
     (c.flush_entry.ensures.spared h stands d one) (c.flush_entry-2.ensures.spared h stands d two)
+
+pub returns-clause-flushes : goal.returns-clause-flushes
+returns-clause-flushes c =
+    only-on_in c.args.arena.now c.args.keeper.now c.flush_entry.new.keeper c.flush_entry-2.new.keeper c.flush_entry.ensures.flushes c.flush_entry-2.ensures.flushes

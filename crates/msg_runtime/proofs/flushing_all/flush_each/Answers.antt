@@ -2,6 +2,7 @@ use Rattle.std.proofs.Common.{◌≡◌, [], ◌∷◌, length, take, true, fals
 use Rattle.std.proofs.Math.Seq.{take-length}
 use Rattle.msg_tables.specs.Making.{is_told}
 use Rattle.msg_tables.proofs.AffectedAllLemmas.{told-next}
+use Rattle.msg_cache.proofs.FlushesLemmas.{only-on_in}
 use Rattle.msg_cache.specs.Views.{layout}
 use Rattle.msg_runtime.specs.Parts.{keeper_view}
 use Rattle.msg_runtime.proofs.SparedLemmas.{spared-on, untold-next}
@@ -24,6 +25,7 @@ loop-entry-preserved c = record {
       let (before, now) = untold-next h c.args.entries.now c.loop-entry.entry-index c.entry-item.result d c.loop-entry-test.true c.entry-item.is untold in
       spared-on (layout c.args.arena.now) (keeper_view c.args.keeper.now) (keeper_view c.loop-entry.keeper) (keeper_view c.flush_once.new.keeper) d
       (c.loop-entry.invariant.spared h stands d before) (c.flush_once.ensures.spared h stands d now);
+  flushes = only-on_in c.args.arena.now c.args.keeper.now c.loop-entry.keeper c.flush_once.new.keeper c.loop-entry.invariant.flushes c.flush_once.ensures.flushes;
 }
 
 pub returns-clause-flushed : goal.returns-clause-flushed

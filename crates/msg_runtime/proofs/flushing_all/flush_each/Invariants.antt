@@ -2,6 +2,7 @@ use Rattle.std.proofs.Common.{◌≡◌, take}
 use Rattle.msg_names.specs.declared.value.ClassRef.{ClassRef}
 use Rattle.msg_tables.specs.Making.{is_told}
 use Rattle.msg_tables.specs.Recent.{HasPlace}
+use Rattle.msg_cache.specs.Ours.{OnlyFlushesIn}
 use Rattle.msg_runtime.specs.Parts.{IsKeeperOf, keeper_history, keeper_seats}
 use Rattle.msg_runtime.specs.Flushed.{AreFlushed, IsFlushedBelow}
 use Rattle.msg_runtime.specs.Spared.{AreSpared}
@@ -16,4 +17,5 @@ invariant-loop-entry l = record {
   recent : (c : ClassRef) → HasPlace l.recent c → IsFlushedBelow l.arena l.tables l.keeper c;
   flushed : AreFlushed l.arena l.tables l.keeper (λ h. is_told h (take l.entry-index l.entries));
   spared : AreSpared l.arena l.tables l.fn.keeper l.keeper (λ h. is_told h (take l.entry-index l.entries));
+  flushes : OnlyFlushesIn l.arena l.fn.keeper l.keeper;
 }

@@ -1,5 +1,5 @@
 -- the tables are at the longer history, and what the list affects is flushed
-use Rattle.std.proofs.Common.{rules, ◌≡◌, ◌||◌, [], ◌∷◌, length, length-append, true, false, Bool, ap, sym, subst, refl, ◌∙◌, arith}
+use Rattle.std.proofs.Common.{rules, ◌≡◌, ℕ, List, ◌||◌, [], ◌∷◌, length, length-append, true, false, Bool, ap, sym, subst, refl, ◌∙◌, arith}
 use Rattle.msg_tables.specs.History.{History, and_then, log}
 use Rattle.msg_tables.specs.Origin.{class_total}
 use Rattle.msg_tables.specs.Several.{and_all, refusal_of_all}
@@ -11,8 +11,13 @@ use Rattle.msg_tables.proofs.SeveralLemmas.{none-accepted, none-refused}
 use Rattle.msg_tables.proofs.ToldLemmas.{told-only}
 use Rattle.msg_tables.proofs.WantLemmas.{count-within}
 use Rattle.msg_tables.proofs.WayLemmas.{length-undo}
+use Rattle.msg_cache.proofs.FlushesLemmas.{only-committed, only-on, only-same}
+use Rattle.msg_cache.specs.Flushes.{OnlyFlushes}
 use Rattle.msg_cache.specs.declared.view.KeeperView.{KeeperView}
+use Rattle.msg_cache.specs.Ours.{OnlyFlushesIn}
+use Rattle.msg_cache.specs.Plays.{lent}
 use Rattle.msg_cache.specs.Views.{layout}
+use Rattle.msg_cache.specs.declared.answer.Report.{Report}
 use Rattle.msg_runtime.specs.Parts.{IsKeeperOf, keeper_history, keeper_view}
 use Rattle.msg_runtime.specs.Reach.{flushes_all}
 use Rattle.msg_runtime.specs.Spared.{IsSpared}
@@ -103,3 +108,27 @@ returns-clause-spared g c = rw (← c.self.view_is) (λ none d other.
     let arena = c.requires.arena ∙ sym (ap (λ (v : RuntimeView). v.arena) c.self.view_is) in
     let unaffected = subst (λ a. IsSpared (layout a) was flushed d) arena (c.flush_changed.ensures.spared (ap (λ n. flushes_all n xs) (c.apply_all.ensures.counts ∙ stands.counts) ∙ none) (and_all h xs) after d (subst (λ es. is_told (and_all h xs) es d ≡ false) (sym same) untold)) in
     subst (λ k. IsSpared z was k d) (sym c.commit_all.ensures.committed) (spared-on z was flushed _ d unaffected (committed-spares z xs flushed d)))
+
+-- nothing is flushed after what the list affects
+pub returns-clause-flushes : goal.returns-clause-flushes
+returns-clause-flushes g c = rw (← c.self.view_is) (
+    let xs = g.L.ChangeList.changes c.args.changes.now in
+    let z = layout c.self.inside.arena.value in
+    let old = c.self.inside.keeper in
+    let mid = c.flush_changed.new.keeper in
+    let new = c.commit_all.new.self in
+    let arena = c.requires.arena ∙ sym (ap (λ (v : RuntimeView). v.arena) c.self.view_is) in
+    let flushing = subst (λ a. OnlyFlushesIn a old mid) arena c.flush_changed.ensures.flushes in
+    let committing = subst (λ (x : KeeperView × List ℕ × Report). OnlyFlushes z (keeper_view mid) x.0 mid.remembered.items x.1 mid.report x.2)
+    (λ i. (sym c.commit_all.ensures.committed i, sym c.commit_all.ensures.remembered i, sym c.commit_all.ensures.report i))
+    (only-committed z xs (keeper_view mid) mid.remembered.items mid.report) in
+    only-on z (keeper_view old) (keeper_view mid) (keeper_view new) old.remembered.items mid.remembered.items new.remembered.items old.report mid.report new.report flushing committing)
+
+pub returns-then-len-eq0-clause-flushes : goal.returns-then-len-eq0-clause-flushes
+returns-then-len-eq0-clause-flushes g c = rw (← c.self.view_is) (
+    let z = layout c.self.inside.arena.value in
+    let old = c.self.inside.keeper in
+    let new = c.face-then-len-eq0.new.self in
+    subst (λ (x : KeeperView × List ℕ × Report). OnlyFlushes z (keeper_view old) x.0 old.remembered.items x.1 old.report x.2)
+    (λ i. (sym c.face-then-len-eq0.ensures.same i, sym c.face-then-len-eq0.ensures.remembered i, sym c.face-then-len-eq0.ensures.report i))
+    (only-same z (keeper_view old) (lent (keeper_view old)) old.remembered.items old.report refl refl))
