@@ -9,6 +9,7 @@ import sys
 import threading
 import time
 import unittest
+from unittest import mock
 
 import yeldrost
 from yeldrost import MISSED, Change, class_itself, instances_of
@@ -487,6 +488,22 @@ class Calls(unittest.TestCase):
                 yeldrost._close_sender = closes
             sender.close()
             runtime.sender().close()
+
+    def test_an_open_that_a_handler_ends(self):
+        def raises(*_):
+            raise KeyboardInterrupt
+
+        def noting(of, call, *words):
+            return at_collection(of, lambda: closed.append(call(*words)))
+
+        closed, at_collection = [], yeldrost._at_collection
+        ended = mock.patch.object(yeldrost._errors, "must", raises)
+        noted = mock.patch.object(yeldrost, "_at_collection", noting)
+        with ended, noted:
+            for opens in (yeldrost.Runtime, yeldrost.Texts):
+                self.assertRaises(KeyboardInterrupt, opens, holds_gil=self.holds_gil)
+                gc.collect()
+        self.assertEqual([0, 0], closed, "each was open, and is closed")
 
     def test_the_end_of_the_interpreter(self):
         program = ENDING.format(self.holds_gil)

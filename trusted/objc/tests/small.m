@@ -32,6 +32,16 @@ static void tell_methods(Class class_)
     free(list);
 }
 
+static void tell_names(const char *name)
+{
+    unsigned int count;
+    Method *list = class_copyMethodList(objc_getClass(name), &count);
+    printf("%s:", name);
+    for (unsigned int i = 0; i < count; i++) printf(" %s", sel_getName(method_getName(list[i])));
+    printf("\n");
+    free(list);
+}
+
 static void tell_locks(void)
 {
     objc_mutex_t mutex = objc_mutex_allocate();
@@ -62,6 +72,9 @@ int main(void)
     printf("%s %s\n", class_getName(NULL), object_getClassName(nil));
     class_addMethod(base, sel_registerName("four"), (IMP)added, "i16@0:8");
     tell_methods(base);
+    tell_names("Object");
+    tell_names("NXConstantString");
+    tell_names("Protocol");
     tell_locks();
     tell_layout();
     printf("a class is no object to free: %d, %d\n", object_dispose((id)base) == nil, [Base value]);

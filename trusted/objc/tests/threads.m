@@ -80,13 +80,19 @@ static void refuse(void)
     printf("no lock: %d %d\n", objc_mutex_lock(NULL), objc_mutex_unlock(NULL));
 }
 
-static void at_first(void) { printf("the first thread\n"); }
+static objc_thread_t caller;
+
+static void at_first(void)
+{
+    printf("the first thread%s\n", objc_thread_id() == caller ? " isn't a new one" : "");
+}
 
 int main(void)
 {
     lock = objc_mutex_allocate();
     changed = objc_condition_allocate();
     Worker *worker = (Worker *)class_createInstance(objc_getClass("Worker"), 0);
+    caller = objc_thread_id();
     objc_set_thread_callback(at_first);
     for (long i = 1; i <= 3; i++) objc_thread_detach(@selector(work:), worker, (id)i);
     objc_mutex_lock(lock);

@@ -164,6 +164,19 @@ static void listed(void)
     }
 }
 
+/* Of several faults the first is returned: no selector, no class, no implementation. */
+static void faults_in_order(void)
+{
+    const msg_method whole = {ONE, 11}, no_sel = {0, 11}, no_imp = {ONE, 0}, none = {0, 0};
+    WANT(msg_process_lock(&runtime), MSG_DONE);
+    WANT(msg_attach(runtime, UNMADE, &whole, 1, &none, 1), MSG_NO_SELECTOR);
+    WANT(msg_attach(runtime, CHILD, &no_imp, 1, &no_sel, 1), MSG_NO_SELECTOR);
+    WANT(msg_attach(runtime, UNMADE, &no_imp, 1, NULL, 0), MSG_NO_SUCH_CLASS);
+    WANT(msg_attach(runtime, CHILD, &no_imp, 1, NULL, 0), MSG_NO_SUCH_IMP);
+    msg_process_unlock();
+    WANT(find(CHILD, false, ONE), 14);
+}
+
 /* With the lock, what is noted is found; of a class that a change reached nothing, until it is
  * answered under the lock. */
 static void locked(void)
@@ -585,6 +598,7 @@ int main(void)
     finds();
     noted();
     listed();
+    faults_in_order();
     locked();
     of_a_place();
     handlers();
