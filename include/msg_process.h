@@ -74,7 +74,9 @@ extern "C" {
  * thread holds the lock, else those of msg_open. MSG_NO_MEMORY also comes if
  * the process has no thread key left. */
 uint32_t msg_process_start(const msg_config *config);
-/* Takes the lock, and gives the runtime, to ask and to change it.
+/* Takes the lock, and gives the runtime, to ask and to change it. Open no
+ * sender of your own on it: msg_process_seen_by_all wouldn't count that, and
+ * msg_seen_by_all sees no msg_process_rest.
  *
  * Faults: MSG_CLOSED before the start, and MSG_LOCK_HELD if the calling thread
  * holds the lock. Then there is nothing to unlock. */

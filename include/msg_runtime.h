@@ -342,8 +342,8 @@ uint32_t msg_classes_below(msg_runtime *runtime, uint32_t number,
  * MSG_CHANGE_MEMORY. */
 uint32_t msg_add(msg_runtime *runtime, uint32_t number, bool meta, uint32_t sel,
                  uint32_t imp);
-/* Gives a class this method in place of its own (class_replaceMethod), or adds
- * it if the class has none of its own.
+/* Gives a class this method in place of its own (class_replaceMethod), of
+ * several the newest, or adds it if the class has none of its own.
  *
  * Faults: MSG_NO_SUCH_CLASS, MSG_NO_SUCH_IMP, MSG_NO_SELECTOR, MSG_LIMIT,
  * MSG_CHANGE_MEMORY. */
