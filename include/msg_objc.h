@@ -43,7 +43,8 @@ struct objc_method_lookup {
  * Faults: nothing has changed, and the place is returned of the first row that
  * can't be: without a class that is registered, a selector or an
  * implementation; without types, or with empty ones, if nobody has the method;
- * that names what a row before it does. 0 also if there is no memory. */
+ * that names what a row before it does. A place below `count` comes also if
+ * there is no memory. */
 size_t objc_replace_methods(struct objc_method_swap *rows, size_t count);
 /* method_exchangeImplementations of each pair, one after another, and all of
  * them at once; so the same call with the pairs in reverse order takes it back.

@@ -133,8 +133,8 @@ enum { MSG_WAITS_NOT, MSG_WAITS, MSG_WAITS_A_WHILE };
 /* The inline calls below go on here if the first note at the key's place
  * doesn't tell what is found, or wasn't asked. The second one is asked first.
  * `waits` says whether the call waits for the lock. A while is a thousand waits
- * of a millisecond each, so about a second, or longer on a loaded machine. It
- * ends if a fork has the lock.
+ * of a millisecond each by the wall clock, so about a second, or longer on a
+ * loaded machine or if that clock is set back. It ends if a fork has the lock.
  *
  * Faults: those of msg_process_find, and MSG_LOCK_HELD if the lock isn't to be
  * had so. */

@@ -164,7 +164,9 @@ static inline bool put(Class class_, SEL sel, IMP imp, const char *types, IMP *b
 {
     if (!class_ || !class_->record || !sel || !imp || !types) return false;
     LOCKED;
-    Method method = method_of(class_->record, shim_sel(sel));
+    Method method = method_of(class_->record, shim_sel(sel)), known = method;
+    if (!method && before && !*types) known = shim_standing(class_, shim_sel(sel));
+    if (!*types && known) types = known->types;
     if (method ? !before : !*types) return false;
     struct part part = part_of(class_->record, method, sel, imp, types);
     make_one(&part);
@@ -243,7 +245,7 @@ static bool plan_swap(const struct objc_method_swap *it, struct part *part)
     uint32_t sel = shim_sel(it->sel);
     Method method = method_of(record, sel), known = method;
     if (!known) known = shim_standing(it->class_, sel);
-    const char *types = it->types || !known ? it->types : known->types;
+    const char *types = (it->types && *it->types) || !known ? it->types : known->types;
     if (!method && (!types || !*types)) return false;
     *part = part_of(record, method, it->sel, it->imp, types);
     part->before = known ? known->imp : NULL;

@@ -59,12 +59,19 @@ void shim_number_class(Class class_)
 
 Class objc_lookUpClass(const char *name) { return name ? shim_class_named(name) : NULL; }
 
+static finder asked(void)
+{
+    finder find = atomic_load(&unknown_class);
+    return find ? find : LOAD(_objc_lookup_class);
+}
+
+bool shim_asks_for_classes(void) { return asked() != NULL; }
+
 Class objc_getClass(const char *name)
 {
     Class class_ = objc_lookUpClass(name);
     if (class_ || !name) return class_;
-    finder find = atomic_load(&unknown_class);
-    if (!find) find = LOAD(_objc_lookup_class);
+    finder find = asked();
     return find ? find(name) : NULL;
 }
 
@@ -154,8 +161,9 @@ Class objc_allocateClassPair(Class superclass, const char *name, size_t extra)
 {
     if (!name || objc_lookUpClass(name)) return NULL;
     if (superclass && (!superclass->record || shim_in_construction(superclass))) return NULL;
+    if (class_isMetaClass(superclass)) return NULL;
     LOCKED;
-    if (!shim_has_class_number()) return NULL;
+    if (!shim_has_class_number() || shim_is_waiting(name)) return NULL;
     Class class_ = new_class(superclass, extra, CLASS_PLAIN);
     Class above = superclass ? superclass->isa : class_;
     Class meta = class_ ? new_class(above, extra, CLASS_META) : NULL;
@@ -176,6 +184,7 @@ void objc_registerClassPair(Class class_)
     if (!class_ || class_isMetaClass(class_)) return;
     LOCKED;
     if (!shim_in_construction(class_) || shim_class_named(class_->name)) return;
+    if (shim_is_waiting(class_->name)) return;
     in_construction--;
     shim_number_class(class_);
     shim_bring_class(class_);

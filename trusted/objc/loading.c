@@ -147,6 +147,13 @@ static void wait_row(struct waiting *all, void *row)
     all->rows[all->count++] = row;
 }
 
+bool shim_is_waiting(const char *name)
+{
+    for (uint32_t i = 0; i < classes.count; i++)
+        if (!strcmp(((Class)classes.rows[i])->name, name)) return true;
+    return false;
+}
+
 static void take_symbols(struct symbols *symbols)
 {
     for (struct objc_selector *sel = symbols->refs; sel && sel->name.text; sel++)
@@ -189,6 +196,14 @@ static void keep_loaded(const struct module *module)
     if (handle) dlclose(handle);
 }
 
+static void take_waiting(const char *what)
+{
+    while (try_all(&classes, try_class)) {}
+    try_all(&categories, try_category);
+    shim_make(what);
+    try_all(&constants, try_constants);
+}
+
 /* What a module brings, and what waited for that, is one change. */
 static void take_module(struct module *module)
 {
@@ -197,10 +212,29 @@ static void take_module(struct module *module)
     if (!has_roots) take_symbols(shim_roots.symbols);
     has_roots = true;
     if (module != &shim_roots) take_symbols(module->symbols);
-    while (try_all(&classes, try_class)) {}
-    try_all(&categories, try_category);
-    shim_make(module->name);
-    try_all(&constants, try_constants);
+    take_waiting(module->name);
+}
+
+/* The name of the superclass that the waiting class at this place wants, or NULL if it is there. */
+static bool awaits(uint32_t at, const char **name)
+{
+    LOCKED;
+    if (at >= classes.count) return false;
+    *name = ((Class)classes.rows[at])->superclass.text;
+    if (*name && shim_class_named(*name)) *name = NULL;
+    return true;
+}
+
+/* A handler for unknown classes may make or load what a class waits for. Then it begins anew. */
+static void ask_for_superclasses(void)
+{
+    const char *name;
+    for (uint32_t at = 0; shim_asks_for_classes() && awaits(at, &name); at++) {
+        if (!name || !objc_getClass(name) || !shim_class_named(name)) continue;
+        LOCKED;
+        take_waiting(name);
+        at = UINT32_MAX;
+    }
 }
 
 /* A program may have no module, and those of others may come before. */
@@ -212,5 +246,6 @@ void __objc_exec_class(struct module *module)
         shim_stop("a module of another version", module->name);
     keep_loaded(module);
     take_module(module);
+    ask_for_superclasses();
     send_loads();
 }

@@ -143,6 +143,7 @@ void shim_take_selector(struct objc_selector *sel);
 uint32_t shim_number(IMP imp);
 
 /* classes.c */
+bool shim_asks_for_classes(void);          /* whether there is a handler for unknown ones */
 Class shim_class_named(const char *name);  /* without the lock */
 Class shim_class_coming(const char *name); /* or one that is numbered and not yet found by others */
 void shim_new_record(Class class_);
@@ -168,6 +169,9 @@ static inline uint64_t shim_key(const struct record *record, SEL sel)
 extern struct module shim_roots;
 extern struct objc_class shim_protocol;
 void shim_take_roots(void);
+
+/* loading.c: whether a module's class of this name waits for its superclass */
+bool shim_is_waiting(const char *name);
 
 /* protocols.c */
 void shim_take_protocol(struct protocol *protocol);

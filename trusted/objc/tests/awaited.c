@@ -1,10 +1,16 @@
 /* A class that comes before its superclass, with a category of its own and one of a class that
- * never comes: until then it is not found, and refused; then it has all of that. */
+ * never comes: until then it is not found, and refused, and nobody else has its name; then it has
+ * all of that. And one whose superclass a handler makes when it is asked. */
 #include "modules.h"
 #include "msg_objc.h"
 
 static int loads;
-static id load(id self, SEL sel, ...) { (void)sel; loads++; return self; }
+static id load(id self, SEL sel, ...)
+{
+    (void)sel;
+    loads++;
+    return self;
+}
 
 #define LIST(name_, text_, function) \
     static struct { \
@@ -16,6 +22,7 @@ LIST(of_early, "own", one);
 LIST(of_category, "added", two);
 LIST(of_metaclass, "load", load);
 LIST(of_awaited, "above", two);
+LIST(of_asking, "asked", two);
 #define METHODS(list) ((struct method_list *)&list)
 
 static struct objc_class early_meta = {.name = "Early", .info = 2, .instance_size = 104};
@@ -31,8 +38,15 @@ static struct objc_class awaited = {.isa = &awaited_meta,
                                     .info = 1,
                                     .instance_size = 8,
                                     .methods = METHODS(of_awaited)};
-static struct objc_category category = {"Own", "Early", METHODS(of_category),
-                                        METHODS(of_metaclass), NULL},
+static struct objc_class asking_meta = {.name = "Asking", .info = 2, .instance_size = 104};
+static struct objc_class asking = {.isa = &asking_meta,
+                                   .superclass.text = "Made",
+                                   .name = "Asking",
+                                   .info = 1,
+                                   .instance_size = 8,
+                                   .methods = METHODS(of_asking)};
+static struct objc_category category = {"Own", "Early", METHODS(of_category), METHODS(of_metaclass),
+                                        NULL},
                             nobodys = {"Nobodys", "Nobody", NULL, NULL, NULL};
 
 struct some {
@@ -42,9 +56,19 @@ struct some {
     void *defs[4];
 };
 static struct some early_symbols = {0, NULL, 1, 2, {&early, &category, &nobodys, NULL}},
-                   awaited_symbols = {0, NULL, 1, 0, {&awaited, NULL}};
+                   awaited_symbols = {0, NULL, 1, 0, {&awaited, NULL}},
+                   asking_symbols = {0, NULL, 1, 0, {&asking, NULL}};
 static struct module early_module = {8, sizeof early_module, "early", (void *)&early_symbols},
-                     awaited_module = {8, sizeof awaited_module, "late", (void *)&awaited_symbols};
+                     awaited_module = {8, sizeof awaited_module, "late", (void *)&awaited_symbols},
+                     asking_module = {8, sizeof asking_module, "asks", (void *)&asking_symbols};
+
+static Class make(const char *name)
+{
+    Class made = strcmp(name, "Made") ? NULL : objc_allocateClassPair(NULL, name, 0);
+    printf("asked for %s\n", name);
+    objc_registerClassPair(made);
+    return made;
+}
 
 static void ask(SEL own)
 {
@@ -62,6 +86,7 @@ static void ask(SEL own)
     printf(", takes %d %d %d", class_addMethod(&early, own, two, "@16@0:8"),
            class_replaceMethod(&early, own, two, "@16@0:8") != NULL,
            objc_allocateClassPair(&early, "Under", 0) != NULL);
+    printf(", another of its name %d", objc_allocateClassPair(NULL, "Early", 0) != NULL);
     printf(", at once %zu %zu; loaded %d\n", objc_replace_methods(&swap, 1),
            objc_lookup_methods(&lookup, 1), loads);
 }
@@ -70,7 +95,9 @@ int main(void)
 {
     (void)take;
     SEL own = sel_registerName("own");
+    Class rival = objc_allocateClassPair(NULL, "Early", 0);
     __objc_exec_class(&early_module);
+    objc_registerClassPair(rival);
     ask(own);
     __objc_exec_class(&awaited_module);
     printf("found %d, under %d, knows %d; loaded %d\n", objc_getClass("Early") == &early,
@@ -79,6 +106,15 @@ int main(void)
     id object = class_createInstance(&early, 0);
     printf("sent: %ld %ld %ld\n", send(object, own), send(object, sel_registerName("added")),
            send(object, sel_registerName("above")));
+    object_dispose(object);
+    printf("a pair below a metaclass: %d\n",
+           objc_allocateClassPair(&early_meta, "Under", 0) != NULL);
+    objc_setGetUnknownClassHandler(make);
+    __objc_exec_class(&asking_module);
+    object = class_createInstance(&asking, 0);
+    printf("found %d, under Made %d, sent %ld\n", objc_getClass("Asking") == &asking,
+           class_getSuperclass(&asking) == objc_getClass("Made"),
+           send(object, sel_registerName("asked")));
     object_dispose(object);
     return 0;
 }

@@ -20,6 +20,7 @@ __attribute__((objc_root_class)) @interface Base <Known> { Class isa; int first;
 @end
 
 static int two(id self, SEL sel) { return 2; }
+static int three(id self, SEL sel) { return 3; }
 
 static void add_methods(Class base)
 {
@@ -31,6 +32,12 @@ static void add_methods(Class base)
     IMP before = class_replaceMethod(base, value, (IMP)two, "");
     Base *object = (Base *)class_createInstance(base, 0);
     printf("of one that stands: %d, sent %d\n", before != NULL, [object value]);
+    object_dispose((id)object);
+    Class heir = objc_allocateClassPair(base, "Heir", 0);
+    objc_registerClassPair(heir);
+    class_replaceMethod(heir, value, (IMP)three, "");
+    object = (Base *)class_createInstance(heir, 0);
+    printf("of one that is inherited: sent %d\n", [object value]);
     object_dispose((id)object);
 }
 

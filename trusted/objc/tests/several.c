@@ -3,8 +3,18 @@
 #include "modules.h"
 #include "msg_objc.h"
 
-static id three(id self, SEL sel, ...) { (void)self; (void)sel; return (id)13; }
-static id four(id self, SEL sel, ...) { (void)self; (void)sel; return (id)14; }
+static id three(id self, SEL sel, ...)
+{
+    (void)self;
+    (void)sel;
+    return (id)13;
+}
+static id four(id self, SEL sel, ...)
+{
+    (void)self;
+    (void)sel;
+    return (id)14;
+}
 
 static SEL first, second, new_one;
 static id object, of_child;
@@ -68,6 +78,10 @@ static void refuse_each(void)
     refuse("empty types", &child, sel_registerName("nobodys"), one, "");
     refuse("named before", &child, second, one, "@16@0:8");
     objc_disposeClassPair(constructed);
+    struct objc_method_swap heirs = {&child, new_one, one, ""};
+    printf("empty types of one that is inherited: %zu of 1", objc_replace_methods(&heirs, 1));
+    show("");
+    objc_replace_methods(&heirs, 1);
 }
 
 static void exchange(void)
@@ -94,8 +108,7 @@ static void look_up(void)
         {&root, first, NULL}, {&child, new_one, NULL}, {&root, sel_registerName("nobodys"), NULL}};
     struct objc_method_lookup wrong[] = {{&root, first, NULL}, {constructed, first, NULL}};
     printf("%zu", objc_lookup_methods(rows, 3));
-    printf(" looked up: %d %d %d\n", rows[0].imp == one, rows[1].imp == three,
-           rows[2].imp == NULL);
+    printf(" looked up: %d %d %d\n", rows[0].imp == one, rows[1].imp == three, rows[2].imp == NULL);
     printf("in construction: at %zu", objc_lookup_methods(wrong, 2));
     wrong[0].sel = NULL;
     printf(", no selector: at %zu, none: %zu\n", objc_lookup_methods(wrong, 2),
