@@ -13,10 +13,11 @@ use Rattle.msg_tables.specs.declared.change.Change.{Change}
 use Rattle.msg_model.specs.declared.state.Standing.{Standing}
 use Rattle.msg_model.specs.declared.state.Standing.TheVariants.{Free, Live, Retired}
 use Rattle.msg_model.specs.State.{Layout, capacity, size}
-use Rattle.msg_model.specs.Steps.{everyone}
-use Rattle.msg_model.proofs.PointLemmas.{class_or, at_class_same, at_class_other}
+use Rattle.msg_model.specs.Steps.{at_class, everyone}
+use Rattle.msg_model.specs.View.{standing_at}
+use Rattle.msg_model.proofs.PointLemmas.{class_or, number_or, at_class_same, at_class_other}
 use Rattle.msg_cache.specs.Counts.{after_flush}
-use Rattle.msg_cache.specs.Flushes.{KeepsArray, LosesArray, OnlyFlushes, after_flushes, retired_count}
+use Rattle.msg_cache.specs.Flushes.{IsLost, IsRetired, KeepsArray, LosesArray, OnlyFlushes, after_flushes, retired_count}
 use Rattle.msg_cache.specs.Keeping.{InOrder, header, is_retired, remember, standing_of}
 use Rattle.msg_cache.specs.Layout.{SettingView, layout_of, stamp_at}
 use Rattle.msg_cache.specs.Ours.{OnlyFlushesIn, closed, is_closed, view}
@@ -35,16 +36,30 @@ flushes-add : (n m : ℕ) (r : Report) → after_flushes n (after_flushes m r) �
 flushes-add zero m r = let e : m ≡ 0 + m = omega arith in ap (λ (k : ℕ). after_flushes k r) e
 flushes-add (suc n) m r = let e : suc (n + m) ≡ suc n + m = omega arith in ap after_flush (flushes-add n m r) ∙ ap (λ (k : ℕ). after_flushes k r) e
 
+none-some : {A : Type 0} (x : A) → None ≡ Some x → ⊥
+none-some x e = cc
+
 -- nothing is flushed where arrays, their standings, what is remembered and the counts stay
 pub only-same : (z : Layout) (k k' : KeeperView) (m : List ℕ) (r : Report) → live_in z k'.words ≡ live_in z k.words → k'.standings ≡ k.standings → OnlyFlushes z k k' m m r r
 only-same z k k' m r live standings = record {
   each = λ c lt. inl (ap (λ f. f c) live, refl);
+  retired = λ a. (λ r. inl (sym (same a) ∙ r), λ e. ⊎_elim (λ r. same a ∙ r) (λ lost. absurd (stays a lost)) e);
   counted = (0, omega (arith, ap (λ (l : List Standing). length (filter is_retired l)) standings), refl);
 }
+  where
+    same : (a : ℕ) → is_retired (standing_of k' a) ≡ is_retired (standing_of k a)
+    same a = ap (λ (l : List Standing). is_retired (standing_at l a)) standings
+
+    stays : (a : ℕ) → IsLost z k k' a → ⊥
+    stays a (c, lt, some, none) = none-some a (sym none ∙ ap (λ f. f c) live ∙ some)
 
 pub only-on : (z : Layout) (k j l : KeeperView) (m n o : List ℕ) (r s t : Report) → OnlyFlushes z k j m n r s → OnlyFlushes z j l n o s t → OnlyFlushes z k l m o r t
 only-on z k j l m n o r s t one two = record {
   each = λ c lt. at c (one.each c lt) (two.each c lt);
+  retired = λ a. (
+    λ r. ⊎_elim (λ was. ⊎_elim inl (λ lost. inr (first a lost)) ((one.retired a).0 was)) (λ lost. inr (second a lost)) ((two.retired a).0 r),
+    λ e. (two.retired a).1 (⊎_elim (λ was. inl ((one.retired a).1 (inl was))) (whole a) e),
+  );
   counted =
       let (a, first, was) = one.counted in
       let (b, then, is) = two.counted in
@@ -55,10 +70,31 @@ only-on z k j l m n o r s t one two = record {
     at c (inl p) (inl q) = inl (q.0 ∙ p.0, q.1 ∙ p.1)
     at c (inl p) (inr (a, live, none, size)) = inr (a, sym p.0 ∙ live, none, size)
     at c (inr (a, live, none, size)) (inl q) = inr (a, live, q.0 ∙ none, q.1 ∙ size)
-    at c (inr (a, live, none, size)) (inr (b, alive, gone, long)) = absurd (apart b (sym none ∙ alive))
+    at c (inr (a, live, none, size)) (inr (b, alive, gone, long)) = absurd (none-some b (sym none ∙ alive))
+
+    -- what was lost stays lost
+    first : (a : ℕ) → IsLost z k j a → IsLost z k l a
+    first a (c, lt, some, none) = by (two.each c lt)
       where
-        apart : (b : ℕ) → None ≡ Some b → ⊥
-        apart b e = cc
+        by : KeepsArray z j l n o c ⊎ LosesArray z j l n o c → IsLost z k l a
+        by (inl q) = (c, lt, some, q.0 ∙ none)
+        by (inr (b, alive, gone, long)) = absurd (none-some b (sym none ∙ alive))
+
+    -- what is lost at last was live at first
+    second : (a : ℕ) → IsLost z j l a → IsLost z k l a
+    second a (c, lt, some, none) = by (one.each c lt)
+      where
+        by : KeepsArray z k j m n c ⊎ LosesArray z k j m n c → IsLost z k l a
+        by (inl p) = (c, lt, sym p.0 ∙ some, none)
+        by (inr (b, alive, gone, long)) = absurd (none-some a (sym gone ∙ some))
+
+    -- what is lost was lost in one of the two
+    whole : (a : ℕ) → IsLost z k l a → IsRetired j a ⊎ IsLost z j l a
+    whole a (c, lt, some, none) = by (one.each c lt)
+      where
+        by : KeepsArray z k j m n c ⊎ LosesArray z k j m n c → IsRetired j a ⊎ IsLost z j l a
+        by (inl p) = inr (c, lt, p.0 ∙ some, none)
+        by (inr (b, alive, gone, long)) = inl ((one.retired a).1 (inr (c, lt, some, gone)))
 
 -- ---- a class reference is closed, and its array taken away
 
@@ -81,12 +117,53 @@ module _ (look : History → ClassRef → ℕ → ℕ) (key : SettingView) (k : 
       retire_by : ℕ → List Standing
       retire_by n = retire c (named n) k
 
+  -- what the array of the class reference is for, and what another one is for
+  module _ (a : ℕ) (e : header k c ≡ suc a) where
+    abbrev gone : Standing
+    gone = Retired c (size k.history) (everyone (length k.given))
+
+    now : (b : ℕ) → standing_of (flushed c k) b ≡ standing_at (slice_set k.standings a gone) b
+    now b = ap (λ (n : ℕ). standing_at (retire c (named n) k) b) e
+
+    is-gone : is_retired (standing_of (flushed c k) a) ≡ true
+    is-gone =
+        let alive : standing_of k a ≡ Live c = header_live look key k kept.tidy c a lt e in
+        let below : a < length k.standings = let i = live_array look key k kept.tidy c a alive in omega (arith, i, kept.tidy.kept.standings) in
+        ap is_retired (now a ∙ get_or-set_same k.standings a gone Free below)
+
+    stays : (b : ℕ) → b ≢ a → is_retired (standing_of (flushed c k) b) ≡ is_retired (standing_of k b)
+    stays b ne = ap is_retired (now b ∙ get_or-set_other k.standings a b gone Free ne)
+
+    live-is : (d : ClassRef) → live_in (layout_of key) (flushed c k).words d ≡ at_class (live_in (layout_of key) k.words) c None d
+    live-is d = ap (λ f. f d) (live_set (layout_of key) k.words c 0 lt kept.tidy.kept.words)
+
+    is-lost : IsLost (layout_of key) k (flushed c k) a
+    is-lost = (c, lt, live_is (layout_of key) k.words c lt ∙ ap named e, live-is c ∙ at_class_same (live_in (layout_of key) k.words) c None)
+
+    to : (b : ℕ) → IsRetired (flushed c k) b → IsRetired k b ⊎ IsLost (layout_of key) k (flushed c k) b
+    to b r = ⊎_elim (λ (same : b ≡ a). inr (subst (λ (x : ℕ). IsLost (layout_of key) k (flushed c k) x) (sym same) is-lost)) (λ (ne : b ≢ a). inl (sym (stays b ne) ∙ r)) (number_or b a)
+
+    -- only this class reference lost one
+    lost-one : (b : ℕ) → IsLost (layout_of key) k (flushed c k) b → b ≡ a
+    lost-one b (d, inside_d, some, none) = ⊎_elim
+        (λ (same : d ≡ c). one (sym some ∙ ap (live_in (layout_of key) k.words) same ∙ live_is (layout_of key) k.words c lt ∙ ap named e))
+        (λ (ne : d ≢ c). absurd (none-some b (sym none ∙ live-is d ∙ at_class_other (live_in (layout_of key) k.words) c None d ne ∙ some)))
+        (class_or d c)
+      where
+        one : Some b ≡ Some a → b ≡ a
+        one same = cc
+
+    from : (b : ℕ) → IsRetired k b ⊎ IsLost (layout_of key) k (flushed c k) b → IsRetired (flushed c k) b
+    from b (inl r) = ⊎_elim (λ (same : b ≡ a). ap (λ (x : ℕ). is_retired (standing_of (flushed c k) x)) same ∙ is-gone) (λ (ne : b ≢ a). stays b ne ∙ r) (number_or b a)
+    from b (inr lost) = ap (λ (x : ℕ). is_retired (standing_of (flushed c k) x)) (lost-one b lost) ∙ is-gone
+
   pub only-flushed : (b : Bool) → (b ≡ true → (a : ℕ) × (header k c ≡ suc a)) → (b ≡ false → header k c ≡ 0)
       → OnlyFlushes (layout_of key) k (cond b (flushed c k) k) m (remember (layout_of key) c (header k c) m) r (cond b (after_flush r) r)
   only-flushed true some none =
       let (a, e) = some refl in
       subst (λ (n : ℕ). OnlyFlushes (layout_of key) k (flushed c k) m (remember (layout_of key) c n m) r (after_flush r)) (sym e) record {
         each = λ d inside_d. ⊎_elim (λ (eq : d ≡ c). let (was, none, long) = lost a e d eq in inr (a, was, none, long)) (λ (ne : d ≢ c). inl (other a d ne)) (class_or d c);
+        retired = λ b. (to a e b, from a e b);
         counted = (1, more-retired a e, refl);
       }
     where

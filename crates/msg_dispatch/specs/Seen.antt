@@ -32,8 +32,8 @@ TakesOnceAtMost v w = (v.takings ≤ w.takings) × (w.takings ≤ v.takings + 1)
 abbrev pub IsReaderOf : ArenaView → ProberView → Type 0
 IsReaderOf a r = IsSenderOf a r × (r.sender.front.origin ≡ a.key.origin)
 
--- A stamp is loaded, and what the notes have since then is found. Then nothing else was done: the
--- lock wasn't taken, and no other word that threads share was loaded.
+-- A stamp is loaded, and what the notes have since then is found. Then no taking of the lock was
+-- counted, and no other load of a word that threads share was recorded.
 abbrev pub FindsNoted : SenderView → SenderView → Notes → Notes → ClassRef → Selector → ImpRef → Type 0
 FindsNoted v w was is c s i =
     (since : ℕ) × LoadsFirst c since v.seen w.seen × IfSome (recalled was since (slot_of c) (selector_number s)) (λ n. (imp_number i ≡ n) × LoadsStamp c since v.seen w.seen × (w.takings ≡ v.takings) × (is ≡ was))

@@ -17,7 +17,7 @@ use Rattle.msg_tables.specs.Several.{and_all}
 use Rattle.msg_tables.proofs.HistoryLemmas.{log-all}
 use Rattle.msg_tables.specs.declared.change.Change.TheVariants.{Add, Replace, SetImp, Attach, Remove}
 use Rattle.msg_host.specs.Config.{IsHostOrigin, host_origin}
-use Rattle.msg_host.specs.WayBack.{EveryListHasWayBack, TakesBack, TwoListsGoBack}
+use Rattle.msg_host.specs.WayBack.{EveryListOfRowsHasWayBack, TakesBack, TwoListsGoBack}
 use Rattle.msg_host.specs.Listing.{AreMeant, MakesRows, UndoesRows, change_in, change_of, exchange_of, method_in, both}
 use Rattle.msg_host.specs.declared.config.HostConfig.{HostConfig}
 use Rattle.msg_host.specs.declared.fault.AskFault.{AskFault}
@@ -101,7 +101,7 @@ length-all h (x ∷ xs) =
 -- ---- a runtime's own list
 
 -- the rows that were written when a list was made take it back
-pub taken_back : (v w : RuntimeView) (rows undo : List ChangeRow) (n : ℕ) → EveryListHasWayBack → IsHostOrigin v.keeper.history.origin → IsLog (log v.keeper.history)
+pub taken_back : (v w : RuntimeView) (rows undo : List ChangeRow) (n : ℕ) → EveryListOfRowsHasWayBack → IsHostOrigin v.keeper.history.origin → IsLog (log v.keeper.history)
     → MakesRows rows v w → UndoesRows rows v.keeper.history undo n → TakesBack (take n undo) v w
 taken_back v w rows undo n law hosts accepted made undoes =
     law v w rows undo n (record { origin = hosts; log = accepted }) made undoes

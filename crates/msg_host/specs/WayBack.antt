@@ -30,8 +30,8 @@ pub record IsHosts (v : RuntimeView) : Type 0 where
   pub log : IsLog (log v.keeper.history)
 
 -- This holds for the rows that are written when a list of rows is made, directly after it.
-abbrev pub EveryListHasWayBack : Type 0
-EveryListHasWayBack = (v w : RuntimeView) (rows undo : List ChangeRow) (n : ℕ) → IsHosts v → MakesRows rows v w → UndoesRows rows v.keeper.history undo n → TakesBack (take n undo) v w
+abbrev pub EveryListOfRowsHasWayBack : Type 0
+EveryListOfRowsHasWayBack = (v w : RuntimeView) (rows undo : List ChangeRow) (n : ℕ) → IsHosts v → MakesRows rows v w → UndoesRows rows v.keeper.history undo n → TakesBack (take n undo) v w
 
 -- Two lists that are made as one go back by the way back of the second, by the tables between them,
 -- and then by that of the first.

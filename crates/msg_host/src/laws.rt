@@ -1,6 +1,6 @@
 //! Laws of lists of changes, and of rows.
 
-ghost use Rattle.msg_host.specs.WayBack.{EveryListHasWayBack, TwoListsGoBack};
+ghost use Rattle.msg_host.specs.WayBack.{EveryListOfRowsHasWayBack, TwoListsGoBack};
 
 use msg_tables::list_laws::{
     a_way_back_brings_back_each_lookup, a_way_back_is_accepted, a_way_back_wants_no_memory,
@@ -11,7 +11,7 @@ use msg_tables::list_laws::{
 /// directly afterwards, it is accepted, as long as that many changes are. It restores each lookup,
 /// and needs no memory.
 pub fn every_list_of_rows_has_a_way_back()
-    ensures { EveryListHasWayBack }
+    ensures { EveryListOfRowsHasWayBack }
 {
     parts_are_accepted_one_after_another();
     a_way_back_is_accepted();

@@ -38,7 +38,8 @@ SpareOthers old new c s = SpareOthersOf c (selector_number s) old new
 
 -- ---- what a sender's view v and its next one w say of stamps
 
--- the stamp of the class reference was loaded, which was n, and nothing else was done
+-- The stamp of the class reference was loaded, which was n. No other load was recorded, and the flag
+-- is as it was.
 abbrev pub LoadsStamp : ClassRef → ℕ → SenderView → SenderView → Type 0
 LoadsStamp c n v w = w ≡ stamped_to v w.front c n
 

@@ -8,8 +8,8 @@ pub(crate) const PLACES: usize = 8192;
 
 // The distance between the keys of two slots: more than the 2^35 that the keys of all selectors
 // span, and 3,849 notes on. So the notes of a class and of those with the next numbers lie far from
-// each other.
-// This is a multiplicative hash of the slot, like Knuth's (The Art of Computer Programming, 6.4).
+// each other. This is a multiplicative hash of the slot, like Knuth's (The Art of Computer
+// Programming, 6.4).
 const APART: u64 = 34_359_769_160;
 
 // The marks for an implementation whose number takes more than 16 bits, and for no method.

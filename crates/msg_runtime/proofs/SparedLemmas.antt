@@ -1,18 +1,14 @@
 -- What flushes and commits leave of caches.
-use Rattle.std.proofs.Common.{◌≡◌, ◌≢◌, ℕ, ◌+◌, ◌<◌, List, [], ◌∷◌, ◌++◌, length, length-set, Bool, true, false, None, cond, get_or-set_other, refl, sym, ap, ap₂, ◌∙◌, subst, take}
-use Rattle.std.specs.Prelude.{◌||◌, ◌==◌, if◌then◌else◌, slice_index_or}
+use Rattle.std.proofs.Common.{◌≡◌, ◌≢◌, ℕ, ◌+◌, ◌<◌, List, [], ◌∷◌, ◌++◌, length, length-set, Bool, true, false, None, cond, get_or-set_other, refl, sym, ap, ◌∙◌, subst, take}
+use Rattle.std.specs.Prelude.{if◌then◌else◌, slice_index_or}
 use Rattle.std.proofs.lemmas.List.{take_more}
-use Rattle.std.proofs.lemmas.List.Folds.{list_any-append}
 use Rattle.msg_names.proofs.TestLemmas.{neither}
 use Rattle.msg_names.specs.declared.value.ClassRef.{ClassRef}
 use Rattle.msg_tables.specs.declared.change.Change.{Change}
 use Rattle.msg_tables.specs.declared.entry.Entry.{Entry}
-use Rattle.msg_tables.specs.Journal.{classes_of, places_of}
 use Rattle.msg_tables.specs.Log.{Log}
 use Rattle.msg_tables.specs.Making.{is_told}
-use Rattle.msg_tables.specs.Several.{is_below, is_of_one}
-use Rattle.msg_tables.proofs.AffectedAllLemmas.{below-append}
-use Rattle.msg_tables.proofs.NoteLemmas.{places-append, classes-append}
+use Rattle.msg_tables.proofs.AffectedAllLemmas.{told-append}
 use Rattle.msg_model.specs.State.{Layout, size}
 use Rattle.msg_model.proofs.PointLemmas.{at_class_other}
 use Rattle.msg_cache.specs.declared.keeper.Keeper.{Keeper}
@@ -86,19 +82,6 @@ committed-spares z xs k c =
     }
 
 -- ---- of what entries tell
-
-or-swap : (a b p q : Bool) → ((a || b) || (p || q)) ≡ ((a || p) || (b || q))
-or-swap true b p q = refl
-or-swap false true true q = refl
-or-swap false true false q = refl
-or-swap false false p q = refl
-
-told-append : (h : Log) (xs ys : List Entry) (c : ClassRef) → is_told h (xs ++ ys) c ≡ (is_told h xs c || is_told h ys c)
-told-append h xs ys c =
-    ap₂ (λ a b. a || b)
-    (ap (λ ks. is_of_one ks c) (classes-append xs ys) ∙ list_any-append (λ k. c.class == k) (classes_of xs) (classes_of ys))
-    (ap (λ ps. is_below h ps c) (places-append xs ys) ∙ below-append h (places_of xs) (places_of ys) c)
-    ∙ or-swap (is_of_one (classes_of xs) c) (is_of_one (classes_of ys) c) (is_below h (places_of xs) c) (is_below h (places_of ys) c)
 
 -- what two parts don't tell of, neither does
 pub untold-both : (h : Log) (xs ys : List Entry) (c : ClassRef) → is_told h (xs ++ ys) c ≡ false → (is_told h xs c ≡ false) × (is_told h ys c ≡ false)

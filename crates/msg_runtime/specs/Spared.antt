@@ -16,6 +16,7 @@ use Rattle.msg_cache.specs.declared.keeper.Keeper.{Keeper}
 use Rattle.msg_cache.specs.declared.keeper.TheConstants.{CLOSED}
 use Rattle.msg_cache.specs.declared.view.KeeperView.{KeeperView}
 use Rattle.msg_runtime.specs.Parts.{keeper_view}
+use Rattle.msg_runtime.specs.Reach.{flushes_all}
 use Rattle.msg_runtime.specs.View.{RuntimeView}
 
 -- A class reference has the live array that it had, with the same words, and the same stamp. So
@@ -35,10 +36,17 @@ AreSpared a t k k' is_meant = (h : Log) → StandsAt t h → SparesUnless (is_me
 
 -- ---- a list of changes
 
--- each class reference that the list affects has no live array, and is closed
+-- from the view v to w the class reference lost its live array if it had one, and is closed
+abbrev pub IsChilled : RuntimeView → RuntimeView → ClassRef → Type 0
+IsChilled v w c = (live_in (layout v.arena) w.keeper.words c ≡ None) × (slice_index w.keeper.words (stamp_at (layout v.arena) c) ≡ CLOSED)
+
+-- so did each that the list affects
 abbrev pub ChillsAffected : List Change → RuntimeView → RuntimeView → Type 0
-ChillsAffected xs v w = (c : ClassRef) → c.class < classes v.arena → is_affected_by_all (log v.keeper.history) xs c ≡ true
-    → (live_in (layout v.arena) w.keeper.words c ≡ None) × (slice_index w.keeper.words (stamp_at (layout v.arena) c) ≡ CLOSED)
+ChillsAffected xs v w = (c : ClassRef) → c.class < classes v.arena → is_affected_by_all (log v.keeper.history) xs c ≡ true → IsChilled v w c
+
+-- so did each, if the list flushes all
+abbrev pub ChillsAll : List Change → RuntimeView → RuntimeView → Type 0
+ChillsAll xs v w = flushes_all v.keeper.history.origin.counts xs ≡ true → (c : ClassRef) → c.class < classes v.arena → IsChilled v w c
 
 -- each that it doesn't affect is spared
 abbrev pub SparesOthers : List Change → RuntimeView → RuntimeView → Type 0

@@ -19,7 +19,7 @@ ghost use Rattle.msg_runtime.specs.Calls.{AllAreOut, CachesAnswer, CountsRefusal
 ghost use Rattle.msg_runtime.specs.Changed.{IsAccepted, IsMadeAt, IsRefusedAt, IsUnmade};
 ghost use Rattle.msg_runtime.specs.Parts.{IsKeeperOf, IsNew, keeper_history};
 ghost use Rattle.msg_runtime.specs.Reach.{flushes_all};
-ghost use Rattle.msg_runtime.specs.Spared.{ChillsAffected, OnlyFlushesOf, SparesOthers};
+ghost use Rattle.msg_runtime.specs.Spared.{ChillsAffected, ChillsAll, OnlyFlushesOf, SparesOthers};
 ghost use Rattle.msg_runtime.specs.declared.runtime.TheConstants.{OPENING_ENTRIES};
 
 use crate::caching::cache_found;
@@ -283,6 +283,7 @@ impl Runtime {
         ensures back { OnOk result (TellsWayBack (change.now ∷ []) self.old.keeper.history self.new.written.entries) }
         ensures held { OnOk result (HoldsRoomFor self.old self.new (change.now ∷ [])) }
         ensures cold { OnOk result (ChillsAffected (change.now ∷ []) self.old self.new) }
+        ensures emptied { OnOk result (ChillsAll (change.now ∷ []) self.old self.new) }
         ensures spared { OnOk result (flushes_all self.old.keeper.history.origin.counts (change.now ∷ []) ≡ false
             → SparesOthers (change.now ∷ []) self.old self.new) }
         ensures flushes { OnOk result (OnlyFlushesOf self.old self.new) }
@@ -333,6 +334,7 @@ impl Runtime {
             (TellsWayBack (L.changes changes.now) self.old.keeper.history self.new.written.entries) }
         ensures held { OnOk result (HoldsRoomFor self.old self.new (L.changes changes.now)) }
         ensures cold { OnOk result (ChillsAffected (L.changes changes.now) self.old self.new) }
+        ensures emptied { OnOk result (ChillsAll (L.changes changes.now) self.old self.new) }
         ensures spared { OnOk result (flushes_all self.old.keeper.history.origin.counts (L.changes changes.now) ≡ false
             → SparesOthers (L.changes changes.now) self.old self.new) }
         ensures flushes { OnOk result (OnlyFlushesOf self.old self.new) }
@@ -377,6 +379,7 @@ impl Runtime {
         ensures fits { OnOk result (length self.new.written.entries ≤ most) }
         ensures held { OnOk result (HoldsRoomFor self.old self.new (L.changes changes.now)) }
         ensures cold { OnOk result (ChillsAffected (L.changes changes.now) self.old self.new) }
+        ensures emptied { OnOk result (ChillsAll (L.changes changes.now) self.old self.new) }
         ensures spared { OnOk result (flushes_all self.old.keeper.history.origin.counts (L.changes changes.now) ≡ false
             → SparesOthers (L.changes changes.now) self.old self.new) }
         ensures flushes { OnOk result (OnlyFlushesOf self.old self.new) }

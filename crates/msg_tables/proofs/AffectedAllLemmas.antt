@@ -15,7 +15,7 @@ use Rattle.msg_names.specs.ClassRef.{same_class}
 use Rattle.msg_names.proofs.ClassRefLemmas.{same_class-is, same_class-refl}
 use Rattle.msg_tables.specs.Log.{Log, and_then, chain_at, table}
 use Rattle.msg_tables.specs.Making.{is_told}
-use Rattle.msg_tables.proofs.NoteLemmas.{places-append, classes-append}
+use Rattle.msg_tables.proofs.NoteLemmas.{classes-append, or-swap, places-append}
 use Rattle.msg_tables.specs.Refusal.{AreAccepted}
 use Rattle.msg_tables.specs.Several.{and_all, is_affected_by_all, is_below, is_of_one, made_by, made_by_all, written_by_all}
 use Rattle.msg_tables.proofs.BelowAllLemmas.{apart-both, chain-all}
@@ -84,23 +84,21 @@ affected-all h xs c o all e = step (is_of_one (made_by_all xs) c) refl
 
 -- ---- one more entry
 
-parted : (a b p q : Bool) → ((a || b) || (p || q)) ≡ true → ((a || p) ≡ true) ⊎ ((b || q) ≡ true)
-parted true b p q e = inl refl
-parted false true p q e = inr refl
-parted false false true q e = inl refl
-parted false false false q e = inr e
-
-told-append : (h : Log) (xs ys : List Entry) (c : ClassRef) → is_told h (xs ++ ys) c ≡ true → (is_told h xs c ≡ true) ⊎ (is_told h ys c ≡ true)
-told-append h xs ys c e =
-    parted (is_of_one (classes_of xs) c) (is_of_one (classes_of ys) c) (is_below h (places_of xs) c) (is_below h (places_of ys) c)
-    (sym (ap₂ (λ a b. a || b)
+-- what two parts tell of
+pub told-append : (h : Log) (xs ys : List Entry) (c : ClassRef) → is_told h (xs ++ ys) c ≡ (is_told h xs c || is_told h ys c)
+told-append h xs ys c =
+    ap₂ (λ a b. a || b)
     (ap (λ ks. is_of_one ks c) (classes-append xs ys) ∙ list_any-append (λ k. c.class == k) (classes_of xs) (classes_of ys))
-    (ap (λ ps. is_below h ps c) (places-append xs ys) ∙ below-append h (places_of xs) (places_of ys) c)) ∙ e)
+    (ap (λ ps. is_below h ps c) (places-append xs ys) ∙ below-append h (places_of xs) (places_of ys) c)
+    ∙ or-swap (is_of_one (classes_of xs) c) (is_of_one (classes_of ys) c) (is_below h (places_of xs) c) (is_below h (places_of ys) c)
 
 pub told-next : (h : Log) (es : List Entry) (i : ℕ) (e : Entry) (c : ClassRef) → i < length es → e ≡ slice_index_or es i e → is_told h (take (i + 1) es) c ≡ true
     → (is_told h (take i es) c ≡ true) ⊎ (is_told h (e ∷ []) c ≡ true)
 told-next h es i e c inside is told =
-    told-append h (take i es) (e ∷ []) c (subst (λ xs. is_told h xs c ≡ true) (take_more es i e inside ∙ ap (λ x. take i es ++ x ∷ []) (sym is)) told)
+    or-cases (is_told h (take i es) c) (is_told h (e ∷ []) c)
+    (sym (told-append h (take i es) (e ∷ []) c)
+    ∙ subst (λ xs. is_told h xs c ≡ true) (take_more es i e inside ∙ ap (λ x. take i es ++ x ∷ []) (sym is)) told)
+    inl inr
 
 -- ---- by a journal
 

@@ -36,7 +36,7 @@ listed-all n (x ∷ xs) a (suc k) d inside = listed-all n xs a.1 k d (omega (ari
 
 -- ---- places
 
-or-swap : (a b c d : Bool) → ((a || b) || (c || d)) ≡ ((a || c) || (b || d))
+pub or-swap : (a b c d : Bool) → ((a || b) || (c || d)) ≡ ((a || c) || (b || d))
 or-swap true b c d = refl
 or-swap false true true d = refl
 or-swap false true false d = refl

@@ -1,9 +1,8 @@
 -- What is marked for a list of changes that was made.
-use Rattle.std.proofs.Common.{◌≡◌, ℕ, ◌<◌, ◌+◌, List, [], ◌∷◌, ◌++◌, Some, Bool, true, false, length, refl, slice_index_or, sym, ap, ap₂, subst, take, ◌∙◌}
+use Rattle.std.proofs.Common.{◌≡◌, ℕ, ◌<◌, ◌+◌, List, [], ◌∷◌, ◌++◌, Some, Bool, true, false, length, refl, slice_index_or, sym, ap, subst, take, ◌∙◌}
 use Rattle.std.proofs.lemmas.Bool.{or_left, or_right}
 use Rattle.std.proofs.lemmas.List.{take_more}
 use Rattle.std.specs.Prelude.{◌||◌, ◌==◌, IfErr, OnOk, Result, Ok, Err}
-use Rattle.std.proofs.lemmas.List.Folds.{list_any-append}
 use Rattle.msg_names.specs.declared.value.ClassRef.{ClassRef}
 use Rattle.msg_tables.specs.Affected.{at_most_one}
 use Rattle.msg_tables.specs.Chain.{is_member}
@@ -16,8 +15,7 @@ use Rattle.msg_tables.specs.Marking.{is_marked}
 use Rattle.msg_tables.specs.Order.{IsOrder}
 use Rattle.msg_tables.specs.Several.{and_all, is_affected_by_all, is_below, is_of_one}
 use Rattle.msg_tables.specs.View.{TablesView}
-use Rattle.msg_tables.proofs.AffectedAllLemmas.{below-append, told-all}
-use Rattle.msg_tables.proofs.NoteLemmas.{places-append, classes-append}
+use Rattle.msg_tables.proofs.AffectedAllLemmas.{told-all, told-append}
 use Rattle.msg_tables.proofs.PresenceLemmas.{Ordered}
 use Rattle.msg_tables.proofs.ToldLemmas.{told-only}
 
@@ -25,25 +23,12 @@ or-over : (a b c : Bool) → ((a || b) || c) ≡ (a || (b || c))
 or-over true b c = refl
 or-over false b c = refl
 
-or-swap : (a b p q : Bool) → ((a || b) || (p || q)) ≡ ((a || p) || (b || q))
-or-swap true b p q = refl
-or-swap false true true q = refl
-or-swap false true false q = refl
-or-swap false false p q = refl
-
 -- truths that follow from one another are equal
 same-truth : (a b : Bool) → (a ≡ true → b ≡ true) → (b ≡ true → a ≡ true) → a ≡ b
 same-truth true true f g = refl
 same-truth true false f g = sym (f refl)
 same-truth false true f g = g refl
 same-truth false false f g = refl
-
-told-append : (h : Log) (xs ys : List Entry) (c : ClassRef) → is_told h (xs ++ ys) c ≡ (is_told h xs c || is_told h ys c)
-told-append h xs ys c =
-    ap₂ (λ a b. a || b)
-    (ap (λ ks. is_of_one ks c) (classes-append xs ys) ∙ list_any-append (λ k. c.class == k) (classes_of xs) (classes_of ys))
-    (ap (λ ps. is_below h ps c) (places-append xs ys) ∙ below-append h (places_of xs) (places_of ys) c)
-    ∙ or-swap (is_of_one (classes_of xs) c) (is_of_one (classes_of ys) c) (is_below h (places_of xs) c) (is_below h (places_of ys) c)
 
 pub either-way : {A B P Q : Type 0} {R : B → Type 0} (r : Result A B) → OnOk r P → IfErr r R → (P → Q) → ((e : B) → R e → Q) → Q
 either-way (Ok a) ok err f g = f ok

@@ -15,7 +15,6 @@ abbrev pub is_present : List (Option Presence) → ℕ → Bool
 is_present supers k = is_some (presence_of supers k)
 
 -- the superclass of a class reference, if each class that is present has the superclass given here
--- given here
 abbrev pub super_of : List (Option Presence) → ClassRef → Option ClassRef
 super_of supers c = option_map_or (λ p. above c p.superclass) (presence_of supers c.class) None
 

@@ -24,7 +24,7 @@ pub enum ChangeFault {
     /// The class itself has the method already.
     #[error("method present")]
     MethodPresent,
-    /// Neither the class nor a superclass has the method.
+    /// Neither the class nor a superclass has the method. For a removal: the class itself has none.
     #[error("no method")]
     NoMethod,
     /// As many changes were accepted as the limit allows, or there would be more rows than the

@@ -1,7 +1,8 @@
 -- the tables are at the longer history, and what the list affects is flushed
-use Rattle.std.proofs.Common.{rules, ◌≡◌, ℕ, List, ◌||◌, [], ◌∷◌, length, length-append, true, false, Bool, ap, sym, subst, refl, ◌∙◌, arith}
+use Rattle.std.proofs.Common.{rules, ◌≡◌, ◌<◌, ℕ, List, Option, None, is_some, ◌||◌, ◌&&◌, [], ◌∷◌, slice_index, length, length-append, true, false, Bool, ap, sym, subst, refl, ◌∙◌, arith}
 use Rattle.msg_tables.specs.History.{History, and_then, log}
-use Rattle.msg_tables.specs.Origin.{class_total}
+use Rattle.msg_tables.specs.Origin.{CountsView, class_total}
+use Rattle.msg_tables.specs.declared.change.Change.{Change}
 use Rattle.msg_tables.specs.Several.{and_all, refusal_of_all}
 use Rattle.msg_tables.specs.Stands.{StandsAt}
 use Rattle.msg_tables.specs.Making.{is_told}
@@ -14,9 +15,12 @@ use Rattle.msg_tables.proofs.WayLemmas.{length-undo}
 use Rattle.msg_cache.proofs.FlushesLemmas.{only-committed, only-on, only-same}
 use Rattle.msg_cache.specs.Flushes.{OnlyFlushes}
 use Rattle.msg_cache.specs.declared.view.KeeperView.{KeeperView}
-use Rattle.msg_cache.specs.Ours.{OnlyFlushesIn}
+use Rattle.msg_cache.specs.Layout.{stamp_at}
+use Rattle.msg_cache.specs.Ours.{IsCold, OnlyFlushesIn}
 use Rattle.msg_cache.specs.Plays.{lent}
+use Rattle.msg_cache.specs.Rule.{live_in}
 use Rattle.msg_cache.specs.Views.{layout}
+use Rattle.msg_cache.specs.declared.keeper.TheConstants.{CLOSED}
 use Rattle.msg_cache.specs.declared.answer.Report.{Report}
 use Rattle.msg_runtime.specs.Parts.{IsKeeperOf, keeper_history, keeper_view}
 use Rattle.msg_runtime.specs.Reach.{flushes_all}
@@ -29,6 +33,10 @@ use Rattle.msg_runtime.proofs.runtime.Runtime.change_all_within.Goals as goal
 either : (a b : Bool) → b ≡ true → (a || b) ≡ true
 either true b e = refl
 either false b e = e
+
+either-left : (a b : Bool) → a ≡ true → (a || b) ≡ true
+either-left true b e = refl
+either-left false b e = cc
 
 pub commit_all-requires-clause-accepted : goal.commit_all-requires-clause-accepted
 commit_all-requires-clause-accepted g c =
@@ -108,6 +116,36 @@ returns-clause-spared g c = rw (← c.self.view_is) (λ none d other.
     let arena = c.requires.arena ∙ sym (ap (λ (v : RuntimeView). v.arena) c.self.view_is) in
     let unaffected = subst (λ a. IsSpared (layout a) was flushed d) arena (c.flush_changed.ensures.spared (ap (λ n. flushes_all n xs) (c.apply_all.ensures.counts ∙ stands.counts) ∙ none) (and_all h xs) after d (subst (λ es. is_told (and_all h xs) es d ≡ false) (sym same) untold)) in
     subst (λ k. IsSpared z was k d) (sym c.commit_all.ensures.committed) (spared-on z was flushed _ d unaffected (committed-spares z xs flushed d)))
+
+some-alone : (counts : Option CountsView) (xs : List Change) → length xs ≡ 0 → flushes_all counts xs ≡ true → ⊥
+some-alone counts [] none all = none-flushed (is_some counts) all
+  where
+    none-flushed : (b : Bool) → (b && false) ≡ true → ⊥
+    none-flushed true e = cc
+    none-flushed false e = cc
+some-alone counts (x ∷ xs) none all = absurd (omega (arith, none))
+
+-- a list that flushes all leaves no class reference its array
+pub returns-clause-emptied : goal.returns-clause-emptied
+returns-clause-emptied g c = rw (← c.self.view_is) (λ all d inside.
+    let xs = g.L.ChangeList.changes c.args.changes.now in
+    let z = layout c.self.inside.arena.value in
+    let flushed = keeper_view c.flush_changed.new.keeper in
+    let h = log (keeper_history c.self.inside.keeper) in
+    let stands = c.self.invariant.tables in
+    let (accepted, after) = c.in_default.ensures.ok h stands in
+    let arena = c.requires.arena ∙ sym (ap (λ (v : RuntimeView). v.arena) c.self.view_is) in
+    let below : d.class < c.self.inside.classes = omega (arith, inside, c.self.invariant.classes, ap class_total c.self.invariant.origin) in
+    let meant = either-left (flushes_all c.apply_all.new.self.counts xs) (is_told (and_all h xs) c.as_slice.result.now d) (ap (λ n. flushes_all n xs) (c.apply_all.ensures.counts ∙ stands.counts) ∙ all) in
+    let cold = subst (λ a. IsCold a c.flush_changed.new.keeper d) arena (c.flush_changed.ensures.flushed (and_all h xs) after d below meant) in
+    let spared = committed-spares z xs flushed d in
+    subst (λ (k : KeeperView). (live_in z k.words d ≡ None) × (slice_index k.words (stamp_at z d) ≡ CLOSED)) (sym c.commit_all.ensures.committed)
+    (spared.array ∙ cold.0, spared.stamp ∙ cold.1))
+
+pub returns-then-len-eq0-clause-emptied : goal.returns-then-len-eq0-clause-emptied
+returns-then-len-eq0-clause-emptied g c = rw (← c.self.view_is) (λ all d inside.
+    let none : length (g.L.ChangeList.changes c.args.changes.now) ≡ 0 = search rules in
+    absurd (some-alone (keeper_history c.self.inside.keeper).origin.counts (g.L.ChangeList.changes c.args.changes.now) none all))
 
 -- nothing is flushed after what the list affects
 pub returns-clause-flushes : goal.returns-clause-flushes
