@@ -166,7 +166,7 @@ static inline bool put(Class class_, SEL sel, IMP imp, const char *types, IMP *b
     LOCKED;
     Method method = method_of(class_->record, shim_sel(sel)), known = method;
     if (!method && before && !*types) known = shim_standing(class_, shim_sel(sel));
-    if (!*types && known) types = known->types;
+    if (!*types && known && known->types) types = known->types;
     if (method ? !before : !*types) return false;
     struct part part = part_of(class_->record, method, sel, imp, types);
     make_one(&part);

@@ -59,19 +59,12 @@ void shim_number_class(Class class_)
 
 Class objc_lookUpClass(const char *name) { return name ? shim_class_named(name) : NULL; }
 
-static finder asked(void)
-{
-    finder find = atomic_load(&unknown_class);
-    return find ? find : LOAD(_objc_lookup_class);
-}
-
-bool shim_asks_for_classes(void) { return asked() != NULL; }
-
 Class objc_getClass(const char *name)
 {
     Class class_ = objc_lookUpClass(name);
     if (class_ || !name) return class_;
-    finder find = asked();
+    finder find = atomic_load(&unknown_class);
+    if (!find) find = LOAD(_objc_lookup_class);
     return find ? find(name) : NULL;
 }
 

@@ -196,14 +196,6 @@ static void keep_loaded(const struct module *module)
     if (handle) dlclose(handle);
 }
 
-static void take_waiting(const char *what)
-{
-    while (try_all(&classes, try_class)) {}
-    try_all(&categories, try_category);
-    shim_make(what);
-    try_all(&constants, try_constants);
-}
-
 /* What a module brings, and what waited for that, is one change. */
 static void take_module(struct module *module)
 {
@@ -212,29 +204,10 @@ static void take_module(struct module *module)
     if (!has_roots) take_symbols(shim_roots.symbols);
     has_roots = true;
     if (module != &shim_roots) take_symbols(module->symbols);
-    take_waiting(module->name);
-}
-
-/* The name of the superclass that the waiting class at this place wants, or NULL if it is there. */
-static bool awaits(uint32_t at, const char **name)
-{
-    LOCKED;
-    if (at >= classes.count) return false;
-    *name = ((Class)classes.rows[at])->superclass.text;
-    if (*name && shim_class_named(*name)) *name = NULL;
-    return true;
-}
-
-/* A handler for unknown classes may make or load what a class waits for. Then it begins anew. */
-static void ask_for_superclasses(void)
-{
-    const char *name;
-    for (uint32_t at = 0; shim_asks_for_classes() && awaits(at, &name); at++) {
-        if (!name || !objc_getClass(name) || !shim_class_named(name)) continue;
-        LOCKED;
-        take_waiting(name);
-        at = UINT32_MAX;
-    }
+    while (try_all(&classes, try_class)) {}
+    try_all(&categories, try_category);
+    shim_make(module->name);
+    try_all(&constants, try_constants);
 }
 
 /* A program may have no module, and those of others may come before. */
@@ -246,6 +219,5 @@ void __objc_exec_class(struct module *module)
         shim_stop("a module of another version", module->name);
     keep_loaded(module);
     take_module(module);
-    ask_for_superclasses();
     send_loads();
 }

@@ -143,7 +143,6 @@ void shim_take_selector(struct objc_selector *sel);
 uint32_t shim_number(IMP imp);
 
 /* classes.c */
-bool shim_asks_for_classes(void);          /* whether there is a handler for unknown ones */
 Class shim_class_named(const char *name);  /* without the lock */
 Class shim_class_coming(const char *name); /* or one that is numbered and not yet found by others */
 void shim_new_record(Class class_);

@@ -31,6 +31,8 @@ void *shim_index(struct index *index, uint32_t mixed, uint32_t number)
     listed[listed_count++] = number;
     return NULL;
 }
+/* No module is there. */
+bool shim_is_waiting(const char *name) { return false; }
 void shim_bring_class(Class class_) { }
 void shim_make(const char *what) { shim_publish(); }
 #ifndef STEPS

@@ -1,6 +1,6 @@
 /* A class that comes before its superclass, with a category of its own and one of a class that
  * never comes: until then it is not found, and refused, and nobody else has its name; then it has
- * all of that. And one whose superclass a handler makes when it is asked. */
+ * all of that. */
 #include "modules.h"
 #include "msg_objc.h"
 
@@ -22,7 +22,6 @@ LIST(of_early, "own", one);
 LIST(of_category, "added", two);
 LIST(of_metaclass, "load", load);
 LIST(of_awaited, "above", two);
-LIST(of_asking, "asked", two);
 #define METHODS(list) ((struct method_list *)&list)
 
 static struct objc_class early_meta = {.name = "Early", .info = 2, .instance_size = 104};
@@ -38,13 +37,6 @@ static struct objc_class awaited = {.isa = &awaited_meta,
                                     .info = 1,
                                     .instance_size = 8,
                                     .methods = METHODS(of_awaited)};
-static struct objc_class asking_meta = {.name = "Asking", .info = 2, .instance_size = 104};
-static struct objc_class asking = {.isa = &asking_meta,
-                                   .superclass.text = "Made",
-                                   .name = "Asking",
-                                   .info = 1,
-                                   .instance_size = 8,
-                                   .methods = METHODS(of_asking)};
 static struct objc_category category = {"Own", "Early", METHODS(of_category), METHODS(of_metaclass),
                                         NULL},
                             nobodys = {"Nobodys", "Nobody", NULL, NULL, NULL};
@@ -56,19 +48,9 @@ struct some {
     void *defs[4];
 };
 static struct some early_symbols = {0, NULL, 1, 2, {&early, &category, &nobodys, NULL}},
-                   awaited_symbols = {0, NULL, 1, 0, {&awaited, NULL}},
-                   asking_symbols = {0, NULL, 1, 0, {&asking, NULL}};
+                   awaited_symbols = {0, NULL, 1, 0, {&awaited, NULL}};
 static struct module early_module = {8, sizeof early_module, "early", (void *)&early_symbols},
-                     awaited_module = {8, sizeof awaited_module, "late", (void *)&awaited_symbols},
-                     asking_module = {8, sizeof asking_module, "asks", (void *)&asking_symbols};
-
-static Class make(const char *name)
-{
-    Class made = strcmp(name, "Made") ? NULL : objc_allocateClassPair(NULL, name, 0);
-    printf("asked for %s\n", name);
-    objc_registerClassPair(made);
-    return made;
-}
+                     awaited_module = {8, sizeof awaited_module, "late", (void *)&awaited_symbols};
 
 static void ask(SEL own)
 {
@@ -109,12 +91,6 @@ int main(void)
     object_dispose(object);
     printf("a pair below a metaclass: %d\n",
            objc_allocateClassPair(&early_meta, "Under", 0) != NULL);
-    objc_setGetUnknownClassHandler(make);
-    __objc_exec_class(&asking_module);
-    object = class_createInstance(&asking, 0);
-    printf("found %d, under Made %d, sent %ld\n", objc_getClass("Asking") == &asking,
-           class_getSuperclass(&asking) == objc_getClass("Made"),
-           send(object, sel_registerName("asked")));
-    object_dispose(object);
+    objc_disposeClassPair(rival);
     return 0;
 }
