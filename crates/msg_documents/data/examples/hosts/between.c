@@ -1,5 +1,5 @@
-/* between.c: three plug-ins are in. A thousand times the oldest goes and comes again, as the newest,
- * while three threads send. No lookup finds either of the two others gone. */
+/* between.c: three plug-ins are in. A thousand times the oldest is taken out and comes back as the
+ * newest, while three threads send. No lookup finds either of the other two gone. */
 #include <msg_runtime.h>
 #include <stdatomic.h>
 #include <stdio.h>
